@@ -1,0 +1,3 @@
+pub mod SubOrder
+pub mod Order
+pub mod Subscript

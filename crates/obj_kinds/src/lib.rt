@@ -1,0 +1,21 @@
+//! The values that all layers of the object host speak of: texts, whole numbers, subscripts, nodes,
+//! stored values, ids, the operations of the store with their replies, and the causes of failures.
+#![tactic(auto)]
+
+mod memory;
+mod name;
+mod node;
+mod op;
+mod sub;
+mod text;
+mod value;
+mod whole;
+
+pub use memory::{Lack, NoMemory};
+pub use name::ClassName;
+pub use node::{Node, begins_with, compare_subs, copy_subs};
+pub use op::{Keep, Mode, Op, Owner, Pid, Reply};
+pub use sub::{Sub, SubError, Subs};
+pub use text::Text;
+pub use value::{Nodes, Value, Values, copy_nodes, copy_values};
+pub use whole::whole_number;
