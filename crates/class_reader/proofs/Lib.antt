@@ -1,0 +1,3 @@
+pub mod TextClassSteps
+pub mod TextClassLaws
+pub mod TextClassForms

@@ -1,0 +1,8 @@
+use Rattle.std.proofs.Common.{◌≡◌, drop}
+use Rattle.class_reader.specs.declared.names.Place.TheVariants.{Word}
+use Rattle.class_reader.specs.Names.{are_words}
+use Rattle.class_reader.proofs.names.are_words.Given as goal
+
+-- the rest decides
+abbrev pub invariant-loop-byte : goal.invariant-loop-byte
+invariant-loop-byte l = are_words l.place (drop l.byte-index l.text) ≡ are_words Word l.text

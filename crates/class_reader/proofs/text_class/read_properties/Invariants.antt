@@ -1,0 +1,14 @@
+use Rattle.std.proofs.Common.{◌≡◌, ◌++◌, ◌-◌, ◌≤◌, length}
+use Rattle.std.specs.Option.{option_map}
+use Rattle.class_reader.specs.TextClassReading.{properties_in}
+use Rattle.class_reader.proofs.text_class.read_properties.Given as goal
+
+-- the properties so far, with those of the rest
+abbrev pub invariant-loop-property : goal.invariant-loop-property
+invariant-loop-property l = record {
+  few : length l.props ≤ 200;
+  read : option_map (λ more. l.props ++ more) (properties_in (200 - length l.props) l.rest) ≡ properties_in 200 l.tokens;
+}
+
+abbrev pub decreases-loop-property : goal.decreases-loop-property
+decreases-loop-property l = length l.rest

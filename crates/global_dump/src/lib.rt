@@ -1,0 +1,8 @@
+//! Dumps: the text of nodes with their values.
+#![tactic(auto)]
+
+mod line;
+mod value;
+
+pub use line::{dump, push_line};
+pub use value::push_value;
