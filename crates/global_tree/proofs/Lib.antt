@@ -1,0 +1,4 @@
+pub mod MapLaws
+pub mod Sorted
+pub mod Parts
+pub mod Seen
