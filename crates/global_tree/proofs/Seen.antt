@@ -1,7 +1,7 @@
 -- What the places of a tree are seen as, and what an edit of them makes of it.
 use Rattle.std.proofs.Common.{◌≡◌, ℕ, ◌+◌, ◌==◌, Bool, true, false, cond, List, [], ◌∷◌, Option, Some, None, option_and_then, unwrap_or, refl, sym, ap, subst, ◌∙◌, arith, IsTrue, get_or, set}
 use Rattle.std.specs.Ordering.{eq_by_cmp}
-use Rattle.std.specs.FinMap.{find, put, is_sorted, from_sorted, get, empty}
+use Rattle.std.specs.FinMap.{find, put, is_sorted, from_sorted, get, empty, entries}
 use Rattle.std.specs.FinMap as map
 use Rattle.obj_kinds.specs.declared.node.Node.{Node}
 use Rattle.obj_kinds.specs.declared.value.Value.{Value}
@@ -12,9 +12,9 @@ use Rattle.global_tree.specs.Maps.{placed}
 use Rattle.global_tree.specs.Contents.{Contents, Globals, Pins, pins_of, counted, pinned, unpinned}
 use Rattle.global_tree.specs.Places.{contents, value_in, pins_in, part}
 use Rattle.global_tree.specs.Search.{IsHit, IsGap}
-use Rattle.global_tree.proofs.Parts.{get-part, part-put}
+use Rattle.global_tree.proofs.Parts.{get-part, part-put, sorted-part}
 use Rattle.std.specs.List.{insert, remove}
-use Rattle.global_tree.proofs.Sorted.{find_hit, find_gap, Edit, hit_edit, gap_edit, from_sorted-nil}
+use Rattle.global_tree.proofs.Sorted.{find_hit, find_gap, Edit, hit_edit, gap_edit, from_sorted-nil, entries_sorted_list}
 
 abbrev pub Places : Type 0
 Places = List (Node × Place)
@@ -99,6 +99,13 @@ added_at es t k i p seen gap = by_edit es (insert es i (k, p)) t k p seen (gap_e
 pub nothing : (es : Places) → es ≡ [] → ((contents es).globals ≡ empty) × ((contents es).pins ≡ empty)
 unfolding contents
 nothing es e = (ap (λ l. from_sorted (part value_in l)) e ∙ from_sorted-nil node_cmp Value, ap (λ l. from_sorted (part pins_in l)) e ∙ from_sorted-nil node_cmp ℕ)
+
+entries_of : (es : Places) → IsRising es → entries (contents es).globals ≡ part value_in es
+unfolding contents
+entries_of es h = entries_sorted_list node_cmp node_total (part value_in es) (sorted-part node_cmp node_total node_exact value_in es h)
+
+pub entries_seen : (es : Places) (t : Contents) → IsSeen es t → entries t.globals ≡ part value_in es
+entries_seen es t seen = ap (λ u. entries u.globals) (sym seen.as_is) ∙ entries_of es seen.rising
 
 -- ---- in the contracts' words
 

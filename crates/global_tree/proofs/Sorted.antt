@@ -35,7 +35,7 @@ second false b h = cc
 truth : (b : Bool) → IsTrue b → T b
 truth b e = subst T (sym e) tt
 
-stays : (b : Bool) → T b → IsTrue b
+pub stays : (b : Bool) → T b → IsTrue b
 stays true h = refl
 stays false h = absurd h
 
@@ -56,7 +56,7 @@ module _ {K : Type 0} (R : K → K → Ordering) (o : IsTotalOrder R) where
 
 module _ {K X : Type 0} (R : K → K → Ordering) (o : IsTotalOrder R) where
   -- a key below all of a list is below each
-  below_each : (x : K) (es : List (K × X)) → IsTrue (below_all R x es) → (j : ℕ) (d : K × X) → j < length es → R x (get_or es j d).0 ≡ Less
+  pub below_each : (x : K) (es : List (K × X)) → IsTrue (below_all R x es) → (j : ℕ) (d : K × X) → j < length es → R x (get_or es j d).0 ≡ Less
   below_each x [] h j d lt = absurd (omega arith)
   below_each x (e ∷ es) h zero d lt = less _ (first _ _ h)
   below_each x (e ∷ es) h (suc j) d lt = below_each x es (second _ _ h) j d (omega arith)

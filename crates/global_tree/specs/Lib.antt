@@ -4,3 +4,4 @@ pub mod ContentsCode
 pub mod Search
 pub mod Below
 pub mod Places
+pub mod FirstStep

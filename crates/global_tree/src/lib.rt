@@ -2,6 +2,8 @@
 //! which were changed, so that a rollback puts their values back without memory.
 #![tactic(auto)]
 
+mod below;
+mod copies;
 mod place;
 mod search;
 mod tree;

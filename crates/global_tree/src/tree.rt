@@ -1,12 +1,15 @@
-ghost use Rattle.std.specs.Prelude.{◌≡◌, ◌+◌, ◌<◌, ◌^◌, IfOk, OnOk, OnErr};
+ghost use Rattle.std.specs.Prelude.{◌≡◌, ◌+◌, ◌<◌, ◌^◌, IfOk, IfSome, IfNone, OnOk, OnErr};
 ghost use Rattle.std.specs.Option.{option_copied};
 ghost use Rattle.std.specs.FinMap as map;
 ghost use Rattle.obj_kinds.specs.Order.{node_cmp};
 ghost use Rattle.global_tree.specs.Contents.{pins_of, pinned};
+ghost use Rattle.global_tree.specs.Below.{next_below, IsNext, IsLast};
 
+use crate::below::{first_step, is_beyond};
+use crate::copies::copy_valued;
 use crate::place::Place;
 use crate::search::search_node;
-use obj_kinds::{NoMemory, Node, Value};
+use obj_kinds::{NoMemory, Node, Nodes, Sub, Value};
 use std::alloc::Global;
 use std::marker::Model;
 
@@ -78,5 +81,24 @@ impl Tree {
                 Ok(None)
             }
         }
+    }
+
+    /// The least subscript below the node, after the one given or from the first on, that has a
+    /// value or descendants.
+    pub fn next(&self, node: &Node, after: Option<&Sub>) -> Option<&Sub>
+        ensures next { option_copied result ≡ next_below self.now.globals node.now (option_copied after.entry) }
+        ensures least { IfSome result (λ sub. IsNext self.now.globals node.now (option_copied after.entry) sub.now) }
+        ensures none { IfNone result (IsLast self.now.globals node.now (option_copied after.entry)) }
+    {
+        let places = self.places.as_slice();
+        let start = places.partition_point(|place| !is_beyond(node, after, &place.0));
+        first_step(node, &places[start..])
+    }
+
+    /// All nodes that have a value, in node order.
+    pub fn nodes(&self, alloc: Global) -> Result<Nodes, NoMemory>
+        ensures { IfOk result (λ nodes. nodes ≡ map.entries self.now.globals) }
+    {
+        copy_valued(alloc, self.places.as_slice())
     }
 }
