@@ -1,13 +1,10 @@
-// A library with one function.
+//! The private path of one class of text properties: scripts that make, fill and save objects.
 #![tactic(auto)]
 
-ghost use Rattle.std.specs.Prelude.{◌≡◌};
-ghost use Rattle.first_path.specs.Echo.{echo_of};
+mod act;
+mod line;
+mod names;
+mod piece;
+mod script;
 
-// The `ensures` clause is the contract: what `echo` returns is `echo_of` of its argument, a definition
-// in `specs/Echo.antt`, which a caller's clause can cite too.
-pub fn echo(x: usize) -> usize
-    ensures { result ≡ echo_of x }
-{
-    x
-}
+pub use act::Act;

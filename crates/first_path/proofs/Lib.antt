@@ -1,0 +1,5 @@
+pub mod LineParts
+pub mod LineLaws
+pub mod LineTakes
+pub mod ScriptLaws
+pub mod ScriptTurns
