@@ -5,6 +5,11 @@ mod act;
 mod line;
 mod names;
 mod piece;
+mod playing;
 mod script;
+mod session;
 
 pub use act::Act;
+pub use playing::{Ending, Played, play};
+pub use script::{MAX_LINES, read_script};
+pub use session::Fields;

@@ -1,0 +1,35 @@
+use Rattle.std.proofs.Common.{◌≡◌, ◌∙◌, List, take, drop, ◌+◌, refl, sym, ap, subst, arith}
+use Rattle.first_path.specs.declared.act.Act.{Act}
+use Rattle.first_path.specs.Play.{IsCut, IsWhole}
+use Rattle.first_path.specs.Amid.{IsAmid}
+use Rattle.first_path.proofs.PlayLaws.{amid_can, amid_step, amid_cut, amid_moved, whole_at, front_at, amid_at, end_at}
+use Rattle.first_path.proofs.playing.play.Goals as goal
+
+pub step-requires : goal.step-requires
+step-requires g c =
+    let amid = amid_at c.args.properties c.args.acts.now c.loop-act.act-index c.loop-act.session _ _ _ _ c.act-item.result c.loop-act-test.true c.act-item.is c.loop-act.invariant in
+    amid_can c.args.properties _ _ c.act-item.result c.loop-act.session c.loop-act.session _ _ _ _ amid
+
+pub returns-in-Failed : goal.returns-in-Failed
+returns-in-Failed g c =
+    let acts = c.args.acts.now in
+    let k = c.loop-act.act-index in
+    let act = c.act-item.result in
+    let amid = amid_at c.args.properties acts k c.loop-act.session _ _ _ _ act c.loop-act-test.true c.act-item.is c.loop-act.invariant in
+    let failed = c.in-Failed.ensures.failed refl in
+    let cut = amid_cut c.args.properties _ _ act c.loop-act.session c.step.new.self _ _ _ _ amid _ _ failed.0 c.in_ok-step.ensures failed.1 failed.2 (c.in-Failed.ensures.rises refl) in
+    record { played = rw (whole_at acts k act c.loop-act-test.true c.act-item.is, c.into_saved.ensures) cut }
+
+pub loop-act-preserved : goal.loop-act-preserved
+loop-act-preserved g c =
+    let acts = c.args.acts.now in
+    let k = c.loop-act.act-index in
+    let act = c.act-item.result in
+    let amid = amid_at c.args.properties acts k c.loop-act.session _ _ _ _ act c.loop-act-test.true c.act-item.is c.loop-act.invariant in
+    let more = amid_step c.args.properties _ _ act c.loop-act.session c.step.new.self _ _ _ _ amid _ _ c.in_ok-step.ensures (c.in-Done.ensures.done refl) c.in-Done.ensures.never_falls in
+    amid_moved (front_at acts k act c.loop-act-test.true c.act-item.is) more
+
+pub returns : goal.returns
+returns g c =
+    let whole = end_at c.args.properties c.args.acts.now c.loop-act.act-index c.loop-act.session _ _ _ _ c.loop-act-test.false c.loop-act.invariant in
+    record { played = rw c.into_saved-2.ensures whole }
