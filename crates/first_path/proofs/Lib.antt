@@ -6,3 +6,4 @@ pub mod ScriptTurns
 pub mod Places
 pub mod WorldLaws
 pub mod PlayLaws
+pub mod KnownLaws

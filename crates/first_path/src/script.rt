@@ -1,9 +1,10 @@
-ghost use Rattle.std.specs.Prelude.{◌≡◌, ℕ, List, ◌<◌, ◌⊎◌, ◌++◌, ◌∷◌, [], Some, None, IfOk, OnOk};
+ghost use Rattle.std.specs.Prelude.{◌≡◌, ℕ, List, ◌<◌, ◌⊎◌, ◌++◌, ◌∷◌, [], Some, None, IfOk, OnOk, length};
 ghost use Rattle.std.specs.Option.{option_copied};
 ghost use Rattle.first_path.specs.Lines.{Line, New, Fill, Save};
 ghost use Rattle.first_path.specs.LineReading.{line_in};
 ghost use Rattle.first_path.specs.Meaning.{act_with};
 ghost use Rattle.first_path.specs.Script.{IsScript};
+ghost use Rattle.first_path.specs.World.{AreKnown};
 ghost use Rattle.first_path.specs.declared.act.Act.{Act as AnAct};
 
 use crate::act::Act;
@@ -135,6 +136,7 @@ pub fn read_script(
     text: &[u8],
 ) -> Result<Items<Act>, FormError>
     ensures found { IfOk result (λ acts. (lines : List Line) × IsScript class.now.name.0 class.now.props text.now lines acts) }
+    ensures known { IfOk result (λ acts. AreKnown (length class.now.props) [] acts) }
     ensures refused { result ≡ Err FormError.NotInForm → (lines : List Line) (acts : List AnAct) → IsScript class.now.name.0 class.now.props text.now lines acts → ⊥ }
 {
     let mut reading = Reading::new(alloc);

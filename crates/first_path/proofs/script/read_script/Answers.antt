@@ -2,6 +2,7 @@ use Rattle.std.proofs.Common.{◌≡◌, ◌≢◌, ◌==◌, not, true, false, 
 use Rattle.std.proofs.lemmas.Result.{err_from_is_err_and}
 use Rattle.first_path.proofs.ScriptLaws.{script_of_read, no_script}
 use Rattle.first_path.proofs.ScriptTurns.{next_at, full_at, refused_at, last_at}
+use Rattle.first_path.proofs.KnownLaws.{script_known}
 use Rattle.first_path.proofs.script.read_script.Goals as goal
 
 same_error : {T E : Type 0} (r : Result T E) (e y d : E) → r ≡ Err y → y ≡ e → r ≡ Err d → e ≡ d
@@ -28,3 +29,6 @@ pub returns-clause-found : goal.returns-clause-found
 returns-clause-found c =
     script_of_read c.args.class.now.name.0 c.args.class.now.props c.args.text.now c.loop-rest.reading.acts
     (last_at _ _ _ c.loop-rest.rest.now c.loop-rest.room c.loop-rest.reading (sym c.is_empty.ensures ∙ c.loop-rest-test.false) c.loop-rest.invariant)
+
+pub returns-clause-known : goal.returns-clause-known
+returns-clause-known c = let script = returns-clause-found c in script_known c.args.class.now.name.0 c.args.class.now.props c.args.text.now script.0 c.loop-rest.reading.acts script.1
