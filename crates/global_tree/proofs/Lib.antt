@@ -6,3 +6,4 @@ pub mod StepLaws
 pub mod Parted
 pub mod NextLaws
 pub mod RunLaws
+pub mod PinLaws
