@@ -16,7 +16,7 @@ use Rattle.global_tree.specs.Search.{IsHit, IsGap}
 use Rattle.global_tree.proofs.MapLaws.{one_key, get-placed}
 use Rattle.global_tree.proofs.Parts.{first, second, find_below}
 use Rattle.global_tree.proofs.Sorted.{find_hit, find_gap, gap_edit, get_sorted, entries_sorted_list, stays}
-use Rattle.tran_log.specs.Levels.{Olds, Level, Levels, Globals, noted_one, noted, put_all, undone, has, kept_by, times}
+use Rattle.tran_log.specs.Levels.{Olds, Level, Levels, Globals, noted_one, noted, put_all, undone, all_undone, committed, has, kept_by, times}
 
 -- ---- one pair
 
@@ -105,6 +105,18 @@ undone_write l g h es olds same = same_map node_total node_exact _ _ (λ n.
     by n (Some v) r e = refl
     by n None None e = same n e
     by n None (Some v) e = olds n v e
+
+-- what an inner commit adds to the level below is undone with it
+pub undone_commit : (g : Globals) (l k : Level) (ls : Levels) → all_undone g (committed (l ∷ k ∷ ls)) ≡ all_undone g (l ∷ k ∷ ls)
+undone_commit g l k ls = ap (λ h. all_undone h ls) (same_map node_total node_exact _ _ (λ n.
+    get-undone (noted k (entries l)) g n
+    ∙ ap (λ o. unwrap_or o (get g n)) (get-noted (entries l) k n ∙ ap (option_or (get k n)) (sym (get-entries l n)))
+    ∙ by n (get k n) (get l n)
+    ∙ sym (get-undone k (undone g l) n ∙ ap (unwrap_or (get k n)) (get-undone l g n))))
+  where
+    by : (n : Node) (o r : Option (Option Value)) → unwrap_or (option_or o r) (get g n) ≡ unwrap_or o (unwrap_or r (get g n))
+    by n None r = refl
+    by n (Some v) r = refl
 
 -- ---- pairs in rising order
 

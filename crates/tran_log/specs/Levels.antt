@@ -1,6 +1,6 @@
 -- The levels of a process's transactions: what their nodes had before, and what undoing them makes
 -- of the globals.
-use Rattle.std.specs.Prelude.{ℕ, ◌+◌, nat_lt, cond, List, [], ◌∷◌, length, Option}
+use Rattle.std.specs.Prelude.{ℕ, ◌+◌, nat_lt, cond, List, [], ◌∷◌, length, map, Option, Some}
 use Rattle.std.specs.Ordering.{eq_by_cmp}
 use Rattle.std.specs.FinMap.{FinMap, insert, entries, empty, contains_key}
 use Rattle.obj_kinds.specs.declared.node.Node.{Node}
@@ -12,6 +12,10 @@ pub use Rattle.global_tree.specs.Contents.{Globals, Pins, Contents, pins_of}
 -- nodes, each with its value before a write, or with none
 abbrev pub Olds : Type 0
 Olds = List (Node × Option Value)
+
+-- taken nodes, each with the value that it had
+abbrev pub as_olds : List (Node × Value) → Olds
+as_olds es = map (λ e. (e.0, Some e.1)) es
 
 -- what each node that a level wrote had before its first write in it
 abbrev pub Level : Type 0
