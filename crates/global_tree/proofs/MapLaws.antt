@@ -1,10 +1,10 @@
 -- Laws of finite maps whose order tells the keys apart.
-use Rattle.std.proofs.Common.{◌≡◌, ℕ, ◌+◌, ◌-◌, Bool, true, false, cond, not, Option, Some, None, unwrap_or, refl, sym, ap, ◌∙◌, arith}
+use Rattle.std.proofs.Common.{◌≡◌, Bool, true, cond, Option, Some, None, refl, sym, ap, arith}
 use Rattle.std.specs.declared.cmp.Ordering.{Ordering}
 use Rattle.std.specs.declared.cmp.Ordering.TheVariants.{Less, Equal, Greater}
 use Rattle.std.specs.Ordering.{eq_by_cmp, is_eq}
 use Rattle.std.specs.Cmp.{IsTotalOrder}
-use Rattle.std.specs.FinMap.{FinMap, IsAntisymmetric, get, insert, remove, retain_keys, same_map, get-insert, get-remove, get-retain_keys}
+use Rattle.std.specs.FinMap.{FinMap, IsAntisymmetric, get, retain_keys, same_map, get-insert, get-remove, get-retain_keys}
 use Rattle.global_tree.specs.Maps.{placed}
 
 equal : (r : Ordering) → is_eq r ≡ true → r ≡ Equal

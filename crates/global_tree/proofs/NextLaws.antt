@@ -1,42 +1,36 @@
 -- Where the search for the next subscript begins, what it finds, and that this is the least.
-use Rattle.std.proofs.Common.{◌≡◌, ◌≢◌, ℕ, zero, suc, ◌<◌, ◌≤◌, Bool, true, false, cond, not, ◌&&◌, Option, Some, None, is_some, IfSome, IfNone, refl, sym, ap, subst, ◌∙◌, arith, List, [], ◌∷◌, length, get_or, drop, IsTrue}
-use Rattle.std.specs.declared.cmp.Ordering.{Ordering}
-use Rattle.std.specs.declared.cmp.Ordering.TheVariants.{Less, Equal, Greater}
+use Rattle.std.proofs.Common.{◌≡◌, ◌≢◌, ℕ, zero, suc, ◌<◌, ◌≤◌, Bool, true, false, cond, not, Option, Some, None, is_some, refl, sym, ap, ◌∙◌, arith, List, [], ◌∷◌, length, get_or, drop, IsTrue}
+use Rattle.std.specs.declared.cmp.Ordering.TheVariants.{Less, Equal}
 use Rattle.std.specs.Ordering.{eq_by_cmp, is_eq}
 use Rattle.std.specs.List.Sorted.{IsPartitionedBy}
 use Rattle.std.proofs.lemmas.Cmp.{tied_itself}
-use Rattle.std.specs.FinMap.{find, is_sorted, get, entries, contains_key, get-entries, entries_sorted}
+use Rattle.std.specs.FinMap.{find, is_sorted, entries, contains_key, get-entries, entries_sorted}
 use Rattle.std.specs.FinMap.Entries.{below_all}
 use Rattle.obj_kinds.specs.declared.sub.Sub.{Sub}
 use Rattle.obj_kinds.specs.declared.node.Node.{Node}
 use Rattle.obj_kinds.specs.declared.value.Value.{Value}
-use Rattle.obj_kinds.specs.Order.{sub_cmp, node_cmp, covers}
+use Rattle.obj_kinds.specs.Order.{sub_cmp, node_cmp}
 use Rattle.obj_kinds.proofs.OrderLemmas.{sub_total, node_total, node_exact}
 use Rattle.global_tree.specs.declared.place.Place.{Place}
 use Rattle.global_tree.specs.Contents.{Globals}
-use Rattle.global_tree.specs.Below.{step_below, is_after, if_after, or_else, beyond_by, is_beyond, next_in, next_below, child, IsThere, IsNext, IsLast}
+use Rattle.global_tree.specs.Below.{step_below, is_after, if_after, or_else, beyond_by, is_beyond, next_in, next_below, IsNext, IsLast}
 use Rattle.global_tree.specs.FirstStep.{first_step, step_or}
 use Rattle.global_tree.specs.Places.{part, part_by, value_in}
 use Rattle.global_tree.proofs.MapLaws.{one_key}
 use Rattle.global_tree.proofs.Parts.{first, second}
-use Rattle.global_tree.proofs.Sorted.{below_each, stays}
-use Rattle.global_tree.proofs.StepLaws.{equal, lesser, step_less, steps_rise, steps_run, covers_step, step_covers, beyond_rises}
+use Rattle.global_tree.proofs.Sorted.{stays}
+use Rattle.global_tree.proofs.Parted.{parted_by}
+use Rattle.global_tree.proofs.StepLaws.{lesser, steps_rise, steps_run, covers_step, step_covers, beyond_rises}
 
-module _ {X : Type 0} where
-  -- what is not beyond comes first
-  pub parted : (n : Node) (after : Option Sub) (es : List (Node × X)) → IsTrue (is_sorted node_cmp es) → IsPartitionedBy (λ e. not (is_beyond n after e.0)) es
-  parted n after [] h i j d le lt p = absurd (omega arith)
-  parted n after (e ∷ es) h zero zero d le lt p = p
-  parted n after (e ∷ es) h zero (suc j) d le lt p = by (is_beyond n after e.0) refl
-    where
-      later : node_cmp e.0 (get_or es j d).0 ≡ Less
-      later = below_each node_cmp node_total e.0 es (first _ _ h) j d (omega arith)
-
-      by : (b : Bool) → is_beyond n after e.0 ≡ b → not b ≡ true
-      by true g = let beyond = beyond_rises n e.0 (get_or es j d).0 after later g in cc
-      by false g = refl
-  parted n after (e ∷ es) h (suc i) zero d le lt p = absurd (omega arith)
-  parted n after (e ∷ es) h (suc i) (suc j) d le lt p = parted n after es (second _ _ h) i j d (omega arith) (omega arith) p
+pub parted : {X : Type 0} (n : Node) (after : Option Sub) (es : List (Node × X)) → IsTrue (is_sorted node_cmp es) → IsPartitionedBy (λ e. not (is_beyond n after e.0)) es
+parted n after es h = parted_by (λ m. not (is_beyond n after m)) (λ a b lt p. rises a b lt p) es h
+  where
+    rises : (a b : Node) → node_cmp a b ≡ Less → not (is_beyond n after b) ≡ true → not (is_beyond n after a) ≡ true
+    rises a b lt p = by (is_beyond n after a) refl
+      where
+        by : (q : Bool) → is_beyond n after a ≡ q → not q ≡ true
+        by true g = let beyond = beyond_rises n a b after lt g in cc
+        by false g = refl
 
 -- what is not beyond does not come after
 not_late : (n m : Node) (after : Option Sub) → not (is_beyond n after m) ≡ true → if_after after (step_below n m) ≡ None

@@ -1,11 +1,11 @@
 -- The part of a sorted list of pairs for whose values a function has an answer.
-use Rattle.std.proofs.Common.{◌≡◌, Bool, true, false, cond, ◌&&◌, List, [], ◌∷◌, Option, Some, None, option_and_then, refl, sym, ap, subst, ◌∙◌, arith, IsTrue}
+use Rattle.std.proofs.Common.{◌≡◌, ℕ, zero, suc, ◌<◌, length, get_or, Bool, true, false, cond, ◌&&◌, List, [], ◌∷◌, Option, Some, None, option_and_then, refl, sym, ap, ◌∙◌, arith, IsTrue}
 use Rattle.std.specs.declared.cmp.Ordering.{Ordering}
 use Rattle.std.specs.declared.cmp.Ordering.TheVariants.{Less, Equal, Greater}
-use Rattle.std.specs.Ordering.{eq_by_cmp, is_eq, is_lt, ordering_reverse}
+use Rattle.std.specs.Ordering.{eq_by_cmp, is_eq, is_lt}
 use Rattle.std.specs.Cmp.{IsTotalOrder}
-use Rattle.std.proofs.lemmas.Cmp.{alike_right}
-use Rattle.std.specs.FinMap.{FinMap, IsAntisymmetric, find, put, is_sorted, from_sorted, get, same_map}
+use Rattle.std.specs.List.{remove}
+use Rattle.std.specs.FinMap.{IsAntisymmetric, find, put, is_sorted, from_sorted, get, same_map}
 use Rattle.std.specs.FinMap.Entries.{below_all, find-put}
 use Rattle.global_tree.specs.Maps.{placed}
 use Rattle.global_tree.specs.Places.{part, part_by}
@@ -89,3 +89,20 @@ module _ {K X Y : Type 0} (R : K → K → Ordering) (o : IsTotalOrder R) (exact
       ∙ choose (eq_by_cmp R q k) x (find R q es)
       ∙ ap (cond (eq_by_cmp R q k) (f x)) (sym (get-part es h q))
       ∙ sym (get-placed o (from_sorted (part f es)) k (f x) q))
+
+  -- a pair for which f has no answer may go
+  pub part-remove : (es : List (K × X)) (i : ℕ) (d : K × X) → i < length es → f (get_or es i d).1 ≡ None → part f (remove es i) ≡ part f es
+  part-remove [] i d lt none = absurd (omega arith)
+  part-remove (e ∷ es) zero d lt none = sym (ap (λ y. part_by e.0 y (part f es)) none)
+  part-remove (e ∷ es) (suc i) d lt none = ap (λ l. part_by e.0 (f e.1) l) (part-remove es i d (omega arith) none)
+
+module _ {K X : Type 0} (R : K → K → Ordering) where
+  below-remove : (x : K) (es : List (K × X)) (i : ℕ) → i < length es → IsTrue (below_all R x es) → IsTrue (below_all R x (remove es i))
+  below-remove x [] i lt h = absurd (omega arith)
+  below-remove x (e ∷ es) zero lt h = second _ _ h
+  below-remove x (e ∷ es) (suc i) lt h = both _ _ (first _ _ h) (below-remove x es i (omega arith) (second _ _ h))
+
+  pub sorted-remove : (es : List (K × X)) (i : ℕ) → i < length es → IsTrue (is_sorted R es) → IsTrue (is_sorted R (remove es i))
+  sorted-remove [] i lt h = absurd (omega arith)
+  sorted-remove (e ∷ es) zero lt h = second _ _ h
+  sorted-remove (e ∷ es) (suc i) lt h = both _ _ (below-remove e.0 es i (omega arith) (first _ _ h)) (sorted-remove es i (omega arith) (second _ _ h))

@@ -1,7 +1,9 @@
 -- What the places of a tree are seen as, and what an edit of them makes of it.
-use Rattle.std.proofs.Common.{◌≡◌, ℕ, ◌+◌, ◌==◌, Bool, true, false, cond, List, [], ◌∷◌, Option, Some, None, option_and_then, unwrap_or, refl, sym, ap, subst, ◌∙◌, arith, IsTrue, get_or, set}
+use Rattle.std.proofs.Common.{◌≡◌, ℕ, ◌+◌, ◌-◌, ◌<◌, length, ◌==◌, Bool, true, false, cond, List, [], Option, Some, None, is_none, option_and_then, unwrap_or, refl, sym, ap, ◌∙◌, arith, IsTrue, get_or, set}
 use Rattle.std.specs.Ordering.{eq_by_cmp}
-use Rattle.std.specs.FinMap.{find, put, is_sorted, from_sorted, get, empty, entries}
+use Rattle.std.proofs.lemmas.Cmp.{tied_itself}
+use Rattle.std.proofs.lemmas.List.{get_or_default}
+use Rattle.std.specs.FinMap.{FinMap, same_map, find, put, is_sorted, from_sorted, get, empty, entries}
 use Rattle.std.specs.FinMap as map
 use Rattle.obj_kinds.specs.declared.node.Node.{Node}
 use Rattle.obj_kinds.specs.declared.value.Value.{Value}
@@ -12,7 +14,8 @@ use Rattle.global_tree.specs.Maps.{placed}
 use Rattle.global_tree.specs.Contents.{Contents, Globals, Pins, pins_of, counted, pinned, unpinned}
 use Rattle.global_tree.specs.Places.{contents, value_in, pins_in, part}
 use Rattle.global_tree.specs.Search.{IsHit, IsGap}
-use Rattle.global_tree.proofs.Parts.{get-part, part-put, sorted-part}
+use Rattle.global_tree.proofs.MapLaws.{get-placed, one_key}
+use Rattle.global_tree.proofs.Parts.{get-part, part-put, sorted-part, part-remove}
 use Rattle.std.specs.List.{insert, remove}
 use Rattle.global_tree.proofs.Sorted.{find_hit, find_gap, Edit, hit_edit, gap_edit, from_sorted-nil, entries_sorted_list}
 
@@ -42,6 +45,10 @@ pub value_at : (es : Places) → IsRising es → (q : Node) → get (contents es
 unfolding contents
 value_at es h q = get-part node_cmp node_total node_exact value_in es h q
 
+count_at : (es : Places) → IsRising es → (q : Node) → get (contents es).pins q ≡ option_and_then pins_in (find node_cmp q es)
+unfolding contents
+count_at es h q = get-part node_cmp node_total node_exact pins_in es h q
+
 pub pins_at : (es : Places) → IsRising es → (q : Node) → pins_of (contents es).pins q ≡ pins_or (find node_cmp q es)
 unfolding contents pins_of
 pins_at es h q = ap (λ n. unwrap_or n 0) (get-part node_cmp node_total node_exact pins_in es h q) ∙ count_of (find node_cmp q es)
@@ -68,11 +75,13 @@ pub record Changed (t : Contents) (fs : Places) (k : Node) (p : Place) : Type 0 
 -- what stands at the node k, of which a search found the place
 pub record Found (t : Contents) (k : Node) (p : Option Place) : Type 0 where
   pub value : get t.globals k ≡ option_and_then value_in p
+  pub count : get t.pins k ≡ option_and_then pins_in p
   pub pins : pins_of t.pins k ≡ pins_or p
 
 found_by : (es : Places) (t : Contents) (k : Node) (p : Option Place) → IsSeen es t → find node_cmp k es ≡ p → Found t k p
 found_by es t k p seen is = record {
   value = ap (λ u. get u.globals k) (sym seen.as_is) ∙ value_at es seen.rising k ∙ ap (option_and_then value_in) is;
+  count = ap (λ u. get u.pins k) (sym seen.as_is) ∙ count_at es seen.rising k ∙ ap (option_and_then pins_in) is;
   pins = ap (λ u. pins_of u.pins k) (sym seen.as_is) ∙ pins_at es seen.rising k ∙ ap pins_or is;
 }
 
@@ -120,3 +129,36 @@ one_more n = grind arith
 pub one_pin : (pins : Pins) (k : Node) (n : ℕ) → pins_of pins k ≡ n → placed pins k (counted (n + 1)) ≡ pinned pins k
 unfolding pinned
 one_pin pins k n e = ap (placed pins k) (one_more n ∙ ap (λ m. Some (m + 1)) (sym e))
+
+pub one_unpin : (pins : Pins) (k : Node) (n : ℕ) → pins_of pins k ≡ n → placed pins k (counted (n - 1)) ≡ unpinned pins k
+unfolding unpinned
+one_unpin pins k n e = ap (λ m. placed pins k (counted (m - 1))) (sym e)
+
+-- what a map has already changes nothing
+pub placed_same : {X : Type 0} (m : FinMap node_cmp X) (k : Node) (v : Option X) → get m k ≡ v → placed m k v ≡ m
+placed_same m k v e = same_map node_total node_exact _ _ (λ q. get-placed node_total m k v q ∙ at q (eq_by_cmp node_cmp q k) refl)
+  where
+    at : (q : Node) (b : Bool) → eq_by_cmp node_cmp q k ≡ b → cond b v (get m q) ≡ get m q
+    at q true g = sym (ap (get m) (one_key node_exact q k g) ∙ e)
+    at q false g = refl
+
+-- a place without a value and without pins may go
+pub without : (es : Places) (i : ℕ) (d : Node × Place) → i < length es → (get_or es i d).1.value ≡ None → (get_or es i d).1.pins ≡ 0 → contents (remove es i) ≡ contents es
+unfolding contents counted
+without es i d lt none zero_ =
+    λ j. record {
+      globals = from_sorted (part-remove node_cmp node_total node_exact value_in es i d lt none j);
+      pins = from_sorted (part-remove node_cmp node_total node_exact pins_in es i d lt (ap counted zero_) j);
+    }
+
+-- a place that isn't there has no pin
+pub not_absent : (t : Contents) (k : Node) → Found t k None → 0 < pins_of t.pins k → ⊥
+not_absent t k found lt = omega (arith, found.pins)
+
+pub no_value : (v : Option Value) → is_none v ≡ true → v ≡ None
+no_value None h = refl
+no_value (Some v) h = cc
+
+-- what each place of a tree says of its node
+pub found_in : (es : Places) (t : Contents) (i : ℕ) (d : Node × Place) → IsSeen es t → i < length es → let e = get_or es i d in Found t e.0 (Some e.1)
+found_in es t i d seen lt = found_by es t (get_or es i d).0 (Some (get_or es i d).1) seen (find_hit node_cmp node_total es (get_or es i d).0 i d seen.rising (record { in_range = lt; ties = λ e. ap (λ (x : Node × Place). node_cmp x.0 (get_or es i d).0) (get_or_default es i e d lt) ∙ tied_itself node_total (get_or es i d).0 }))

@@ -1,14 +1,14 @@
 -- The way from a node down to others, and the order of nodes.
-use Rattle.std.proofs.Common.{◌≡◌, ◌≢◌, Bool, true, false, cond, ◌&&◌, Option, Some, None, is_some, refl, sym, ap, subst, ◌∙◌, List, [], ◌∷◌, ◌++◌}
+use Rattle.std.proofs.Common.{◌≡◌, ◌≢◌, Bool, true, false, cond, ◌&&◌, Option, Some, None, refl, sym, ap, ◌∙◌, List, [], ◌∷◌, ◌++◌}
 use Rattle.std.specs.declared.cmp.Ordering.{Ordering}
 use Rattle.std.specs.declared.cmp.Ordering.TheVariants.{Less, Equal, Greater}
 use Rattle.std.specs.Ordering.{eq_by_cmp, is_eq, is_lt, ordering_then, ordering_reverse}
 use Rattle.std.specs.Cmp.Lexicographic.{slice_cmp, nat_list_cmp_total}
-use Rattle.std.proofs.lemmas.Cmp.{tied_itself}
+use Rattle.std.proofs.lemmas.Cmp.{tied_itself, lists_total}
 use Rattle.obj_kinds.specs.declared.sub.Sub.{Sub}
 use Rattle.obj_kinds.specs.declared.node.Node.{Node}
 use Rattle.obj_kinds.specs.Order.{text_cmp, sub_cmp, is_front, node_cmp, covers}
-use Rattle.obj_kinds.proofs.OrderLemmas.{sub_total, sub_exact, node_total, node_exact}
+use Rattle.obj_kinds.proofs.OrderLemmas.{sub_total, sub_exact, node_total}
 use Rattle.global_tree.specs.Below.{sub_behind, step_below, is_after, beyond_by, is_beyond, child}
 
 pub equal : (r : Ordering) → is_eq r ≡ true → r ≡ Equal
@@ -113,7 +113,70 @@ behind_front (x ∷ front) (y ∷ way) s h = by (eq_by_cmp sub_cmp x y) (behind_
     by true rest k = rest k
     by false rest k = cc
 
+-- what lies between a front and a way that begins with it begins with it too
+fronts_run : (front xs ys : List Sub) → slice_cmp sub_cmp front xs ≡ Less → slice_cmp sub_cmp xs ys ≡ Less → is_front front ys ≡ true → is_front front xs ≡ true
+fronts_run [] xs ys a b h = refl
+fronts_run (f ∷ front) [] ys a b h = cc
+fronts_run (f ∷ front) (x ∷ xs) [] a b h = cc
+fronts_run (f ∷ front) (x ∷ xs) (y ∷ ys) a b h = by (λ p q k. fronts_run front xs ys p q k) (eq_by_cmp sub_cmp f y) refl h
+  where
+    by : (slice_cmp sub_cmp front xs ≡ Less → slice_cmp sub_cmp xs ys ≡ Less → is_front front ys ≡ true → is_front front xs ≡ true) → (q : Bool) → eq_by_cmp sub_cmp f y ≡ q → (q && is_front front ys) ≡ true → (eq_by_cmp sub_cmp f x && is_front front xs) ≡ true
+    by rest true g k =
+        let fy : f ≡ y = sub_exact f y (equal (sub_cmp f y) g) in
+        let back : ordering_then (ordering_reverse (sub_cmp f x)) (slice_cmp sub_cmp xs ys) ≡ Less = ap (λ r. ordering_then r (slice_cmp sub_cmp xs ys)) (sym (sub_total.antisymm x f) ∙ ap (sub_cmp x) fy) ∙ b in
+        let tied : sub_cmp f x ≡ Equal = then_tied (sub_cmp f x) (slice_cmp sub_cmp front xs) (slice_cmp sub_cmp xs ys) a back in
+        let tied' : sub_cmp x y ≡ Equal = ap (sub_cmp x) (sym fy) ∙ sub_total.antisymm x f ∙ ap ordering_reverse tied in
+        ap (λ r. is_eq r && is_front front xs) tied ∙ rest (then_less (sub_cmp f x) (slice_cmp sub_cmp front xs) tied a) (then_less (sub_cmp x y) (slice_cmp sub_cmp xs ys) tied' b) k
+    by rest false g k = cc
+
+front_first : (front way : List Sub) → is_front front way ≡ true → slice_cmp sub_cmp front way ≢ Greater
+front_first [] [] h = λ g. cc
+front_first [] (y ∷ way) h = λ g. cc
+front_first (x ∷ front) [] h = cc
+front_first (x ∷ front) (y ∷ way) h = by (eq_by_cmp sub_cmp x y) refl (λ k. front_first front way k) h
+  where
+    by : (b : Bool) → eq_by_cmp sub_cmp x y ≡ b → (is_front front way ≡ true → slice_cmp sub_cmp front way ≢ Greater) → (b && is_front front way) ≡ true → ordering_then (sub_cmp x y) (slice_cmp sub_cmp front way) ≢ Greater
+    by true g rest k = λ more. rest k (ap (λ r. ordering_then r (slice_cmp sub_cmp front way)) (sym (equal _ g)) ∙ more)
+    by false g rest k = cc
+
+front_itself : (front : List Sub) → is_front front front ≡ true
+front_itself [] = refl
+front_itself (x ∷ front) = ap (λ r. is_eq r && is_front front front) (tied_itself sub_total x) ∙ front_itself front
+
 -- ---- on nodes
+
+pub covers_itself : (n : Node) → covers n n ≡ true
+unfolding covers
+covers_itself n = ap (λ r. is_eq r && is_front n.subs n.subs) (tied_itself nat_list_cmp_total n.global) ∙ front_itself n.subs
+
+-- what stands before a node isn't below it
+pub before_apart : (n m : Node) → node_cmp m n ≡ Less → covers n m ≡ false
+unfolding node_cmp covers
+before_apart n m lt = by (eq_by_cmp text_cmp n.global m.global) (is_front n.subs m.subs) refl refl
+  where
+    by : (p q : Bool) → eq_by_cmp text_cmp n.global m.global ≡ p → is_front n.subs m.subs ≡ q → (p && q) ≡ false
+    by true true e g =
+        let one : text_cmp n.global m.global ≡ Equal = equal _ e in
+        let tied : text_cmp m.global n.global ≡ Equal = nat_list_cmp_total.antisymm m.global n.global ∙ ap ordering_reverse one in
+        let less : slice_cmp sub_cmp m.subs n.subs ≡ Less = then_less (text_cmp m.global n.global) (slice_cmp sub_cmp m.subs n.subs) tied lt in
+        absurd (front_first n.subs m.subs g ((lists_total sub_total).antisymm n.subs m.subs ∙ ap ordering_reverse less))
+    by true false e g = refl
+    by false q e g = refl
+
+-- the descendants of a node stand together
+pub covers_run : (n a b : Node) → node_cmp n a ≡ Less → node_cmp a b ≡ Less → covers n b ≡ true → covers n a ≡ true
+unfolding node_cmp covers
+covers_run n a b lt gt h = by (eq_by_cmp text_cmp n.global b.global) refl h
+  where
+    by : (q : Bool) → eq_by_cmp text_cmp n.global b.global ≡ q → (q && is_front n.subs b.subs) ≡ true → (eq_by_cmp text_cmp n.global a.global && is_front n.subs a.subs) ≡ true
+    by true g k =
+        let ab : text_cmp a.global b.global ≡ ordering_reverse (text_cmp n.global a.global) =
+        nat_list_cmp_total.antisymm a.global b.global ∙ ap ordering_reverse (sym (nat_list_cmp_total.congr n.global b.global a.global (equal (text_cmp n.global b.global) g))) in
+        let back : ordering_then (ordering_reverse (text_cmp n.global a.global)) (slice_cmp sub_cmp a.subs b.subs) ≡ Less = ap (λ r. ordering_then r (slice_cmp sub_cmp a.subs b.subs)) (sym ab) ∙ gt in
+        let tied : text_cmp n.global a.global ≡ Equal = then_tied (text_cmp n.global a.global) (slice_cmp sub_cmp n.subs a.subs) (slice_cmp sub_cmp a.subs b.subs) lt back in
+        let tied' : text_cmp a.global b.global ≡ Equal = ab ∙ ap ordering_reverse tied in
+        ap (λ r. is_eq r && is_front n.subs a.subs) tied ∙ fronts_run n.subs a.subs b.subs (then_less (text_cmp n.global a.global) (slice_cmp sub_cmp n.subs a.subs) tied lt) (then_less (text_cmp a.global b.global) (slice_cmp sub_cmp a.subs b.subs) tied' gt) k
+    by false g k = cc
 
 -- a node stands before those below it
 pub step_less : (n m : Node) (s : Sub) → step_below n m ≡ Some s → node_cmp n m ≡ Less

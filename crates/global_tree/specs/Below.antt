@@ -1,12 +1,11 @@
 -- The subscripts below a node.
-use Rattle.std.specs.Prelude.{◌≡◌, ◌≢◌, Bool, true, false, cond, ◌&&◌, List, [], ◌∷◌, ◌++◌, Option, Some, None}
+use Rattle.std.specs.Prelude.{◌≡◌, ◌≢◌, Bool, true, cond, List, [], ◌∷◌, ◌++◌, Option, Some, None, is_some, ℕ, ◌+◌}
 use Rattle.std.specs.declared.cmp.Ordering.{Ordering}
 use Rattle.std.specs.declared.cmp.Ordering.TheVariants.{Less}
 use Rattle.std.specs.Ordering.{is_lt, eq_by_cmp}
 use Rattle.std.specs.FinMap.{entries, contains_key}
 use Rattle.obj_kinds.specs.declared.sub.Sub.{Sub}
 use Rattle.obj_kinds.specs.declared.node.Node.{Node}
-use Rattle.obj_kinds.specs.declared.value.Value.{Value}
 use Rattle.obj_kinds.specs.Order.{text_cmp, sub_cmp, node_cmp, covers}
 use Rattle.global_tree.specs.Contents.{Globals}
 
@@ -67,3 +66,11 @@ pub record IsNext (g : Globals) (n : Node) (after : Option Sub) (s : Sub) : Type
 -- there is no subscript below n that comes after the one that is given
 abbrev pub IsLast : Globals → Node → Option Sub → Type 0
 IsLast g n after = (t : Sub) → is_after after t ≡ true → IsThere g n t → ⊥
+
+-- the node has descendants
+abbrev pub HasDescendants : Globals → Node → Type 0
+HasDescendants g n = (s : Sub) × IsThere g n s
+
+-- 1 for a value, 10 for descendants, 11 for both, and else 0
+unfoldable pub state_at : Globals → Node → ℕ
+state_at g n = cond (contains_key g n) 1 0 + cond (is_some (next_below g n None)) 10 0

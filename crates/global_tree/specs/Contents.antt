@@ -1,9 +1,9 @@
 -- What a tree holds: the values of its nodes, and how often each place is pinned.
-use Rattle.std.specs.Prelude.{ℕ, ◌+◌, ◌-◌, ◌==◌, cond, List, [], ◌∷◌, Option, None, Some, unwrap_or}
-use Rattle.std.specs.FinMap.{FinMap, get}
+use Rattle.std.specs.Prelude.{ℕ, ◌+◌, ◌-◌, ◌==◌, cond, ◌&&◌, Option, None, Some, unwrap_or}
+use Rattle.std.specs.FinMap.{FinMap, get, contains_key}
 use Rattle.obj_kinds.specs.declared.node.Node.{Node}
 use Rattle.obj_kinds.specs.declared.value.Value.{Value}
-use Rattle.obj_kinds.specs.Order.{node_cmp}
+use Rattle.obj_kinds.specs.Order.{node_cmp, covers}
 use Rattle.global_tree.specs.Maps.{placed}
 
 abbrev pub Globals : Type 0
@@ -32,3 +32,7 @@ pinned pins n = placed pins n (Some (pins_of pins n + 1))
 -- with one pin less at the node
 unfoldable pub unpinned : Pins → Node → Pins
 unpinned pins n = placed pins n (counted (pins_of pins n - 1))
+
+-- one pin for the value of m, where it is taken with n
+unfoldable pub taken_at : Globals → Node → Node → ℕ
+taken_at g n m = cond (covers n m && contains_key g m) 1 0

@@ -5,3 +5,4 @@ pub mod Search
 pub mod Below
 pub mod Places
 pub mod FirstStep
+pub mod Run

@@ -1,5 +1,5 @@
 -- What the places of a tree, in node order, hold.
-use Rattle.std.specs.Prelude.{ℕ, List, [], ◌∷◌, Option, None, Some}
+use Rattle.std.specs.Prelude.{ℕ, ◌+◌, cond, is_some, List, [], ◌∷◌, Option, None, Some}
 use Rattle.std.specs.FinMap.{from_sorted}
 use Rattle.obj_kinds.specs.declared.node.Node.{Node}
 use Rattle.obj_kinds.specs.declared.value.Value.{Value}
@@ -23,3 +23,7 @@ pins_in p = counted p.pins
 
 unfoldable pub contents : List (Node × Place) → Contents
 contents places = record { globals = from_sorted (part value_in places); pins = from_sorted (part pins_in places) }
+
+-- without its value, and pinned once more if it had one
+unfoldable pub emptied : Place → Place
+emptied p = cond (is_some p.value) (record { value = None; pins = p.pins + 1 }) p

@@ -5,8 +5,10 @@
 mod below;
 mod copies;
 mod place;
+mod run;
 mod search;
 mod tree;
 
+pub use run::Pairs;
 pub use search::search_node;
 pub use tree::Tree;

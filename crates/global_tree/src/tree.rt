@@ -1,13 +1,16 @@
-ghost use Rattle.std.specs.Prelude.{◌≡◌, ◌+◌, ◌<◌, ◌^◌, IfOk, IfSome, IfNone, OnOk, OnErr};
+ghost use Rattle.std.specs.Prelude.{◌≡◌, true, not, filter, ◌+◌, ◌<◌, ◌≤◌, ◌^◌, ◌↔◌, IfOk, IfSome, IfNone, OnOk, OnErr};
 ghost use Rattle.std.specs.Option.{option_copied};
 ghost use Rattle.std.specs.FinMap as map;
-ghost use Rattle.obj_kinds.specs.Order.{node_cmp};
-ghost use Rattle.global_tree.specs.Contents.{pins_of, pinned};
-ghost use Rattle.global_tree.specs.Below.{next_below, IsNext, IsLast};
+ghost use Rattle.obj_kinds.specs.Order.{node_cmp, covers};
+ghost use Rattle.global_tree.specs.Contents.{pins_of, pinned, unpinned, taken_at};
+ghost use Rattle.obj_kinds.specs.declared.node.Node.{Node};
+ghost use Rattle.global_tree.specs.Maps.{placed};
+ghost use Rattle.global_tree.specs.Below.{next_below, IsNext, IsLast, HasDescendants, state_at};
 
 use crate::below::{first_step, is_beyond};
 use crate::copies::copy_valued;
-use crate::place::Place;
+use crate::place::{Place, remove_empty};
+use crate::run::{Pairs, empty_run, run_of};
 use crate::search::search_node;
 use obj_kinds::{NoMemory, Node, Nodes, Sub, Value};
 use std::alloc::Global;
@@ -95,10 +98,66 @@ impl Tree {
         first_step(node, &places[start..])
     }
 
+    /// 1 where the node has a value, 10 where it has descendants, 11 where both, and else 0.
+    #[tactic(auto, unfolding(crate::specs::Below::state_at))]
+    pub fn defined(&self, node: &Node) -> u8
+        ensures state { result ≡ state_at self.now.globals node.now }
+        ensures descendants { (10 ≤ result) ↔ HasDescendants self.now.globals node.now }
+    {
+        match (self.get(node), self.next(node, None)) {
+            (None, None) => 0,
+            (Some(_), None) => 1,
+            (None, Some(_)) => 10,
+            (Some(_), Some(_)) => 11,
+        }
+    }
+
     /// All nodes that have a value, in node order.
     pub fn nodes(&self, alloc: Global) -> Result<Nodes, NoMemory>
         ensures { IfOk result (λ nodes. nodes ≡ map.entries self.now.globals) }
     {
         copy_valued(alloc, self.places.as_slice())
+    }
+
+    /// Stores the value at a pinned place, or takes it away; the pins stay.
+    pub fn put_back(&mut self, node: &Node, value: Option<Value>)
+        requires { 0 < pins_of self.old.pins node.now }
+        ensures values { self.new.globals ≡ placed self.old.globals node.now value }
+        ensures pins { self.new.pins ≡ self.old.pins }
+    {
+        match search_node(self.places.as_slice(), node) {
+            Ok(at) => self.places[at].1.put(value),
+            Err(_) => unreachable!(),
+        }
+    }
+
+    /// Takes one pin of a pinned place away. Where no pin and no value is left the place goes.
+    pub fn unpin(&mut self, node: &Node)
+        requires { 0 < pins_of self.old.pins node.now }
+        ensures values { self.new.globals ≡ self.old.globals }
+        ensures pins { self.new.pins ≡ unpinned self.old.pins node.now }
+    {
+        match search_node(self.places.as_slice(), node) {
+            Ok(at) => {
+                self.places[at].1.pins -= 1;
+                remove_empty(&mut self.places, at);
+            }
+            Err(_) => unreachable!(),
+        }
+    }
+
+    /// Takes the values of the node and of its descendants away, answers them in node order, and
+    /// pins the place of each once more. At a want of memory the tree stays as it was.
+    pub fn take_under(&mut self, alloc: Global, node: &Node) -> Result<Pairs, NoMemory>
+        requires { (m : Node) → covers node.now m ≡ true → map.contains_key self.old.globals m ≡ true → pins_of self.old.pins m + 1 < 2 ^ 64 }
+        ensures taken { IfOk result (λ taken. taken ≡ filter (λ e. covers node.now e.0) (map.entries self.old.globals)) }
+        ensures values { OnOk result (self.new.globals ≡ map.retain_keys self.old.globals (λ m. not (covers node.now m))) }
+        ensures pins { OnOk result ((m : Node) → pins_of self.new.pins m ≡ pins_of self.old.pins m + taken_at self.old.globals node.now m) }
+        ensures err { OnErr result (self.new ≡ self.old) }
+    {
+        let (start, end) = run_of(self.places.as_slice(), node);
+        let taken = copy_valued(alloc, &self.places.as_slice()[start..end])?;
+        empty_run(&mut self.places, start, end);
+        Ok(taken)
     }
 }

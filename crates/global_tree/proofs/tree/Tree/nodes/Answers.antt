@@ -1,4 +1,3 @@
-use Rattle.std.proofs.Common.{sym}
 use Rattle.global_tree.proofs.Seen.{entries_seen}
 use Rattle.global_tree.proofs.tree.Tree.nodes.Goals as goal
 

@@ -1,4 +1,4 @@
-use Rattle.std.proofs.Common.{◌≡◌, refl, ap, sym, ◌∙◌, ◌+◌, Some, None, arith, set}
+use Rattle.std.proofs.Common.{refl, sym, ◌∙◌, ◌+◌, Some, None, arith, set}
 use Rattle.std.specs.List.{insert}
 use Rattle.global_tree.specs.declared.place.Place.{Place}
 use Rattle.global_tree.proofs.Seen.{Found, found_at, absent_at, Changed, changed_at, added_at, one_value, one_pin}
