@@ -1,5 +1,5 @@
 -- The acts of a script speak of objects that were made and of properties that there are.
-use Rattle.std.proofs.Common.{◌≡◌, ℕ, zero, suc, ◌<◌, Bool, true, false, cond, List, [], ◌∷◌, length, Option, Some, None, refl, sym, ap, subst, ◌∙◌, arith}
+use Rattle.std.proofs.Common.{◌≡◌, ℕ, zero, suc, ◌<◌, ◌≤◌, Bool, true, false, cond, List, [], ◌∷◌, length, Option, Some, None, refl, sym, ap, subst, ◌∙◌, arith}
 use Rattle.std.specs.Option.{option_map, option_and_then}
 use Rattle.std.specs.Ordering.{is_eq}
 use Rattle.std.specs.Str.{bytes_eq}
@@ -79,3 +79,12 @@ are_known props before past (line ∷ lines) acts same h =
 
 pub script_known : (class : List ℕ) (props : List (List ℕ)) (text : List ℕ) (lines : List Line) (acts : List Act) → IsScript class props text lines acts → AreKnown (length props) [] acts
 script_known class props text lines acts is = are_known props [] [] lines acts refl is.meant
+
+acts_count : (props : List (List ℕ)) (before : History) (lines : List Line) (acts : List Act) → acts_of props before lines ≡ Some acts → length acts ≡ length lines
+acts_count props before [] acts h = let none : [] ≡ acts = cc in ap length (sym none)
+acts_count props before (line ∷ lines) acts h =
+    let found = continues (act_of props before line) (acts_of props (line ∷ before) lines) acts h in
+    ap length (sym found.joined) ∙ ap (λ n. suc n) (acts_count props (line ∷ before) lines found.more found.rest)
+
+pub script_few : (class : List ℕ) (props : List (List ℕ)) (text : List ℕ) (lines : List Line) (acts : List Act) → IsScript class props text lines acts → length acts ≤ 10000
+script_few class props text lines acts is = let same = acts_count props [] lines acts is.meant in let few = is.few in omega arith

@@ -7,3 +7,4 @@ pub mod Places
 pub mod WorldLaws
 pub mod PlayLaws
 pub mod KnownLaws
+pub mod ImageLaws

@@ -1,17 +1,17 @@
 -- One act further in the playing of a script.
-use Rattle.std.proofs.Common.{◌≡◌, ℕ, suc, ◌+◌, ◌-◌, ◌^◌, ◌<◌, ◌≤◌, min, List, [], ◌∷◌, ◌++◌, reverse, length, get_or, take, drop, Option, Some, None, codes, refl, sym, ap, subst, ◌∙◌, arith, append_assoc}
-use Rattle.std.specs.Option.{IfSome}
+use Rattle.std.proofs.Common.{◌≡◌, ℕ, suc, Bool, true, false, cond, length-append, ◌+◌, ◌-◌, ◌^◌, ◌<◌, ◌≤◌, min, List, [], ◌∷◌, ◌++◌, reverse, length, get_or, take, drop, Option, Some, None, codes, refl, sym, ap, subst, ◌∙◌, arith, append_assoc}
+use Rattle.std.specs.Option.{IfSome, is_some}
 use Rattle.std.specs.List.{flat_map}
-use Rattle.std.proofs.lemmas.List.{reverse-append, take-append-drop, take_more, drop_all, take_all}
+use Rattle.std.proofs.lemmas.List.{reverse-append, take-append-drop, take_more, drop_all, take_all, length-map, length-reverse}
 use Rattle.std.proofs.lemmas.Grind.{flat_map-append}
 use Rattle.std.proofs.Math.Seq.{drop-cons}
 use Rattle.obj_edges.specs.Told.{Rises, Adds, AddsFront}
-use Rattle.first_path.specs.World.{AreKnown, IsKnown, world_after, world_of}
+use Rattle.first_path.specs.World.{AreKnown, IsKnown, world_after, world_of, first_saves, saved_fields, place_among}
 use Rattle.first_path.specs.Amid.{PastKnown, IsAmid}
 use Rattle.first_path.specs.Steps.{CanStep, Steps, Stands}
 use Rattle.first_path.specs.Play.{print_of, prints_of, AddsCut, IsWhole, IsCut}
 use Rattle.first_path.specs.declared.act.Act.{Act}
-use Rattle.first_path.specs.declared.act.Act.TheVariants.{Save}
+use Rattle.first_path.specs.declared.act.Act.TheVariants.{Make, Fill, Save}
 use Rattle.first_path.specs.declared.session.Session.{Session}
 use Rattle.first_path.proofs.WorldLaws.{next_stands, can_step}
 
@@ -96,3 +96,26 @@ module _ (n : ℕ) (acts : List Act) (k : ℕ) (s : Session) (old now : Option (
 
 pub amid_moved : {n : ℕ} {front done rest : List Act} {s : Session} {old now : Option (List ℕ)} {faults faults' : ℕ} → done ≡ front → IsAmid n front rest s old now faults faults' → IsAmid n done rest s old now faults faults'
 amid_moved {n} {front} {done} {rest} {s} {old} {now} {faults} {faults'} same amid = subst (λ (fs : List Act). IsAmid n fs rest s old now faults faults') (sym same) amid
+
+-- NO MORE ROWS THAN ACTS
+
+saves_few : (before : List Act) → length (first_saves before) ≤ length before
+saves_few [] = omega arith
+saves_few (Make ∷ before) = let few = saves_few before in omega arith
+saves_few (Fill object place text ∷ before) = let few = saves_few before in omega arith
+saves_few (Save object ∷ before) = by (is_some (place_among (first_saves before) object)) (saves_few before)
+  where
+    by : (b : Bool) → length (first_saves before) ≤ length before → length (cond b (first_saves before) (first_saves before ++ object ∷ [])) ≤ suc (length before)
+    by true few = omega arith
+    by false few = omega (arith, length-append (first_saves before) (object ∷ []))
+
+world_few : (n : ℕ) (acts : List Act) → length (world_of n acts) ≤ length acts
+unfolding world_of
+world_few n acts = omega (arith, saves_few (reverse acts), length-map (first_saves (reverse acts)) (saved_fields n (reverse acts)), length-reverse acts)
+
+pub whole_few : (n : ℕ) (acts : List Act) (old new : Option (List ℕ)) (saved : List (List (List ℕ))) → IsWhole n acts old new saved → length saved ≤ length acts
+whole_few n acts old new saved is = omega (arith, ap length is.world, world_few n acts)
+
+pub cut_few : (n : ℕ) (acts : List Act) (old new : Option (List ℕ)) (faults faults' : ℕ) (saved : List (List (List ℕ))) → IsCut n acts old new faults faults' saved → length saved ≤ length acts
+cut_few n acts old new faults faults' saved is =
+    omega (arith, ap length is.world, world_few n (is.front ++ Save is.object ∷ []), length-append is.front (Save is.object ∷ []), ap length is.split, length-append is.front (Save is.object ∷ is.rest))

@@ -2,6 +2,7 @@
 #![tactic(auto)]
 
 mod act;
+mod imaging;
 mod line;
 mod names;
 mod piece;
@@ -10,6 +11,7 @@ mod script;
 mod session;
 
 pub use act::Act;
+pub use imaging::image;
 pub use playing::{Ending, Played, play};
 pub use script::{MAX_LINES, read_script};
 pub use session::Fields;

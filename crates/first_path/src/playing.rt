@@ -1,4 +1,4 @@
-ghost use Rattle.std.specs.Prelude.{◌≡◌, ◌≤◌, ℕ, [], IfOk};
+ghost use Rattle.std.specs.Prelude.{◌≡◌, ◌≤◌, ℕ, [], IfOk, length};
 ghost use Rattle.first_path.specs.declared.act.Act.TheVariants as act;
 ghost use Rattle.first_path.specs.World.{AreKnown};
 ghost use Rattle.first_path.specs.Play.{IsPlayed, print_of};
@@ -49,6 +49,7 @@ pub fn play<D: Device>(
     device: &mut D,
 ) -> Result<Played, NoMemory>
     requires { AreKnown properties [] acts.now }
+    ensures few { IfOk result (λ played. length played.saved ≤ length acts.now) }
     ensures played { IfOk result (λ played. IsPlayed properties acts.now (D.bytes device.old) (D.bytes device.new) (D.faults device.old) (D.faults device.new) played.saved played.ending) }
 {
     let mut session = Session::new(alloc, properties);

@@ -1,4 +1,4 @@
-ghost use Rattle.std.specs.Prelude.{◌≡◌, ℕ, List, ◌<◌, ◌⊎◌, ◌++◌, ◌∷◌, [], Some, None, IfOk, OnOk, length};
+ghost use Rattle.std.specs.Prelude.{◌≡◌, ℕ, List, ◌<◌, ◌≤◌, ◌⊎◌, ◌++◌, ◌∷◌, [], Some, None, IfOk, OnOk, length};
 ghost use Rattle.std.specs.Option.{option_copied};
 ghost use Rattle.first_path.specs.Lines.{Line, New, Fill, Save};
 ghost use Rattle.first_path.specs.LineReading.{line_in};
@@ -136,6 +136,7 @@ pub fn read_script(
     text: &[u8],
 ) -> Result<Items<Act>, FormError>
     ensures found { IfOk result (λ acts. (lines : List Line) × IsScript class.now.name.0 class.now.props text.now lines acts) }
+    ensures few { IfOk result (λ acts. length acts ≤ MAX_LINES) }
     ensures known { IfOk result (λ acts. AreKnown (length class.now.props) [] acts) }
     ensures refused { result ≡ Err FormError.NotInForm → (lines : List Line) (acts : List AnAct) → IsScript class.now.name.0 class.now.props text.now lines acts → ⊥ }
 {

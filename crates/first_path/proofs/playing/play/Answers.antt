@@ -2,7 +2,7 @@ use Rattle.std.proofs.Common.{◌≡◌, ◌∙◌, List, take, drop, ◌+◌, r
 use Rattle.first_path.specs.declared.act.Act.{Act}
 use Rattle.first_path.specs.Play.{IsCut, IsWhole}
 use Rattle.first_path.specs.Amid.{IsAmid}
-use Rattle.first_path.proofs.PlayLaws.{amid_can, amid_step, amid_cut, amid_moved, whole_at, front_at, amid_at, end_at}
+use Rattle.first_path.proofs.PlayLaws.{amid_can, amid_step, amid_cut, amid_moved, whole_few, cut_few, whole_at, front_at, amid_at, end_at}
 use Rattle.first_path.proofs.playing.play.Goals as goal
 
 pub step-requires : goal.step-requires
@@ -18,7 +18,9 @@ returns-in-Failed g c =
     let amid = amid_at c.args.properties acts k c.loop-act.session _ _ _ _ act c.loop-act-test.true c.act-item.is c.loop-act.invariant in
     let failed = c.in-Failed.ensures.failed refl in
     let cut = amid_cut c.args.properties _ _ act c.loop-act.session c.step.new.self _ _ _ _ amid _ _ failed.0 c.in_ok-step.ensures failed.1 failed.2 (c.in-Failed.ensures.rises refl) in
-    record { played = rw (whole_at acts k act c.loop-act-test.true c.act-item.is, c.into_saved.ensures) cut }
+    let played : IsCut c.args.properties acts (g.D.Device.bytes c.args.device.now) (g.D.Device.bytes c.print.new.device) (g.D.Device.faults c.args.device.now) (g.D.Device.faults c.print.new.device) c.into_saved.result =
+      rw (whole_at acts k act c.loop-act-test.true c.act-item.is, c.into_saved.ensures) cut in
+    record { few = cut_few _ _ _ _ _ _ _ played; played = played }
 
 pub loop-act-preserved : goal.loop-act-preserved
 loop-act-preserved g c =
@@ -32,4 +34,5 @@ loop-act-preserved g c =
 pub returns : goal.returns
 returns g c =
     let whole = end_at c.args.properties c.args.acts.now c.loop-act.act-index c.loop-act.session _ _ _ _ c.loop-act-test.false c.loop-act.invariant in
-    record { played = rw c.into_saved-2.ensures whole }
+    let played : IsWhole c.args.properties c.args.acts.now (g.D.Device.bytes c.args.device.now) (g.D.Device.bytes c.loop-act.device) c.into_saved-2.result = rw c.into_saved-2.ensures whole in
+    record { few = whole_few _ _ _ _ _ played; played = played }

@@ -2,7 +2,7 @@ use Rattle.std.proofs.Common.{◌≡◌, ◌≢◌, ◌==◌, not, true, false, 
 use Rattle.std.proofs.lemmas.Result.{err_from_is_err_and}
 use Rattle.first_path.proofs.ScriptLaws.{script_of_read, no_script}
 use Rattle.first_path.proofs.ScriptTurns.{next_at, full_at, refused_at, last_at}
-use Rattle.first_path.proofs.KnownLaws.{script_known}
+use Rattle.first_path.proofs.KnownLaws.{script_known, script_few}
 use Rattle.first_path.proofs.script.read_script.Goals as goal
 
 same_error : {T E : Type 0} (r : Result T E) (e y d : E) → r ≡ Err y → y ≡ e → r ≡ Err d → e ≡ d
@@ -32,3 +32,6 @@ returns-clause-found c =
 
 pub returns-clause-known : goal.returns-clause-known
 returns-clause-known c = let script = returns-clause-found c in script_known c.args.class.now.name.0 c.args.class.now.props c.args.text.now script.0 c.loop-rest.reading.acts script.1
+
+pub returns-clause-few : goal.returns-clause-few
+returns-clause-few c = let script = returns-clause-found c in script_few c.args.class.now.name.0 c.args.class.now.props c.args.text.now script.0 c.loop-rest.reading.acts script.1
