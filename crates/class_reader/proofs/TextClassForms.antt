@@ -8,6 +8,12 @@ use Rattle.class_reader.specs.TextClassReading.{Tokens, head_in, properties_in}
 use Rattle.class_reader.proofs.TextClassSteps.{head_in-is, head_in-takes}
 use Rattle.class_reader.proofs.TextClassLaws.{close, properties_in-is, properties_in-takes}
 
+some_pair : (a b : List ℕ × Tokens) → Some a ≡ Some b → a ≡ b
+some_pair a b h = cc
+
+some_tokens : (a b : Tokens) → Some a ≡ Some b → a ≡ b
+some_tokens a b h = cc
+
 -- the parts of a text that has the form
 pub record HasParts (text : List ℕ) (c : TextClass) : Type 0 where
   pub rest : Tokens
@@ -55,3 +61,13 @@ not_distinct text p props found read twice c form =
     let those : props ≡ c.props = cc in
     let once = ap are_distinct those ∙ parts.distinct in
     cc
+
+-- a text has the form of one class at most
+pub one_class : (text : List ℕ) (c d : TextClass) → IsTextClass text c → IsTextClass text d → c ≡ d
+one_class text c d form form' =
+    let first = parts_of_form text c form in
+    let second = parts_of_form text d form' in
+    let same : (c.name.0, first.rest) ≡ (d.name.0, second.rest) = some_pair _ _ (sym first.head ∙ second.head) in
+    let name : c.name.0 ≡ d.name.0 = ap (λ (p : List ℕ × Tokens). p.0) same in
+    let props : c.props ≡ d.props = some_tokens _ _ (sym first.props ∙ ap (λ (p : List ℕ × Tokens). properties_in 200 p.1) same ∙ second.props) in
+    λ i. record { name = record { 0 = name i }; props = props i }

@@ -105,7 +105,7 @@ pub struct FileDevice<R: rt::Files + Drop> {
 impl<R: rt::Files + Drop> FileDevice<R> {
     /// The device of the process with this number. The file's name is made here, so that a put takes
     /// memory at most where it opens the file, and a want of it there counts as a fault.
-    pub fn new(alloc: Global, rt: R, process: u32) -> Result<FileDevice<R>, NoMemory> {
+    pub fn new(alloc: Global, rt: R, process: usize) -> Result<FileDevice<R>, NoMemory> {
         let name = format!(in alloc; "{process}.out")?;
         Ok(FileDevice {
             rt,
