@@ -25,3 +25,6 @@ pub use sub::{Sub, SubError, Subs};
 pub use text::Text;
 pub use value::{Nodes, Value, Values, copy_nodes, copy_values};
 pub use whole::whole_number;
+
+#[cfg(test)]
+mod tests;

@@ -1,0 +1,159 @@
+use super::*;
+use std::alloc::Global;
+use std::test::Fail;
+
+fn sub_text(alloc: Global, text: &[u8]) -> Result<Option<i64>, SubError> {
+    match Sub::from_text(alloc, text)? {
+        Sub::Num(number) => Ok(Some(number)),
+        Sub::Str(_) => Ok(None),
+    }
+}
+
+#[test]
+fn canonical_whole_numbers_are_numbers(rt: HostRuntime) -> Result<(), Fail> {
+    let cases: [(&str, Option<i64>); 22] = [
+        ("0", Some(0)),
+        ("7", Some(7)),
+        ("-7", Some(-7)),
+        ("10", Some(10)),
+        ("999999999999999999", Some(999_999_999_999_999_999)),
+        ("-999999999999999999", Some(-999_999_999_999_999_999)),
+        ("1000000000000000000", None),
+        ("-1000000000000000000", None),
+        ("9223372036854775807", None),
+        ("99999999999999999999", None),
+        ("00", None),
+        ("007", None),
+        ("-0", None),
+        ("-07", None),
+        ("+7", None),
+        ("--7", None),
+        ("-", None),
+        ("+", None),
+        (" 7", None),
+        ("7 ", None),
+        ("7.0", None),
+        ("1e3", None),
+    ];
+    for (text, number) in &cases {
+        let sub = sub_text(rt.alloc(), text.as_bytes()).expect(&rt, "memory");
+        assert_eq!(rt; sub, *number, "{text}");
+    }
+    Ok(())
+}
+
+#[test]
+fn subscripts_have_1_to_255_bytes(rt: HostRuntime) -> Result<(), Fail> {
+    let long = vec![in rt.alloc(); b'9'; 256]?;
+    assert!(rt; matches!(Sub::from_text(rt.alloc(), b""), Err(SubError::Empty)));
+    assert!(rt; matches!(Sub::from_text(rt.alloc(), &long.as_slice()[..255]), Ok(Sub::Str(_))));
+    assert!(rt; matches!(Sub::from_text(rt.alloc(), long.as_slice()), Err(SubError::TooLong)));
+    Ok(())
+}
+
+#[test]
+fn leading_numbers(rt: HostRuntime) -> Result<(), Fail> {
+    let cases: [(&str, Result<i64, NumberLimit>); 16] = [
+        ("", Ok(0)),
+        ("abc", Ok(0)),
+        ("12abc", Ok(12)),
+        ("007", Ok(7)),
+        ("-3", Ok(-3)),
+        ("--3", Ok(3)),
+        ("+-+3x", Ok(-3)),
+        ("-", Ok(0)),
+        ("- 3", Ok(0)),
+        ("3-4", Ok(3)),
+        ("1.5", Ok(1)),
+        ("999999999999999999", Ok(999_999_999_999_999_999)),
+        ("-0000999999999999999999", Ok(-999_999_999_999_999_999)),
+        ("1000000000000000000", Err(NumberLimit)),
+        ("-1000000000000000000x", Err(NumberLimit)),
+        ("99999999999999999999999999", Err(NumberLimit)),
+    ];
+    for (text, number) in &cases {
+        assert_eq!(rt; number_of(text.as_bytes()), *number, "{text}");
+    }
+    Ok(())
+}
+
+fn node(alloc: Global, global: &str, subs: &[&str]) -> Result<Node, SubError> {
+    let mut list: Subs = Subs::new(alloc);
+    for sub in subs {
+        if list.push(Sub::from_text(alloc, sub.as_bytes())?).is_err() {
+            return Err(SubError::NoMemory);
+        }
+    }
+    Ok(Node {
+        global: Text::from_slice(alloc, global.as_bytes())?,
+        subs: list,
+    })
+}
+
+#[test]
+fn nodes_stand_in_order_and_print(rt: HostRuntime) -> Result<(), Fail> {
+    let cases: [(&str, &[&str], &str); 9] = [
+        ("A", &[], "^A"),
+        ("A", &["-5"], "^A(-5)"),
+        ("A", &["2"], "^A(2)"),
+        ("A", &["2", "x"], "^A(2,\"x\")"),
+        ("A", &["10"], "^A(10)"),
+        ("A", &["02"], "^A(\"02\")"),
+        ("A", &["a\"b"], "^A(\"a\"\"b\")"),
+        ("A.B", &[], "^A.B"),
+        ("B", &["\n\u{7f}z"], "^B($c(10,127)_\"z\")"),
+    ];
+    for (at, (global, subs, text)) in cases.iter().enumerate() {
+        let left = node(rt.alloc(), global, subs).expect(&rt, "memory");
+        let printed = node_text(rt.alloc(), &left).expect(&rt, "memory");
+        assert_eq!(rt; printed.as_slice(), text.as_bytes(), "{text}");
+        let copy = left.copy(rt.alloc()).expect(&rt, "memory");
+        assert!(rt; matches!(left.compare(&copy), std::cmp::Ordering::Equal));
+        for (other, (global, subs, _)) in cases.iter().enumerate() {
+            let right = node(rt.alloc(), global, subs).expect(&rt, "memory");
+            assert_eq!(rt; left.compare(&right), at.cmp(&other), "{text} and place {other}");
+        }
+    }
+    Ok(())
+}
+
+#[test]
+fn a_node_covers_itself_and_its_descendants(rt: HostRuntime) -> Result<(), Fail> {
+    let cases: [(&[&str], bool); 5] = [
+        (&["1"], true),
+        (&["1", "x"], true),
+        (&[], false),
+        (&["2"], false),
+        (&["10"], false),
+    ];
+    let front = node(rt.alloc(), "A", &["1"]).expect(&rt, "memory");
+    for (subs, covered) in &cases {
+        let other = node(rt.alloc(), "A", subs).expect(&rt, "memory");
+        assert_eq!(rt; front.covers(&other), *covered);
+    }
+    let other = node(rt.alloc(), "B", &["1"]).expect(&rt, "memory");
+    assert!(rt; !front.covers(&other));
+    Ok(())
+}
+
+#[test]
+fn copies_are_alike(rt: HostRuntime) -> Result<(), Fail> {
+    let mut items: Values = Values::new(rt.alloc());
+    items.push(Value::Str(Text::from_slice(rt.alloc(), b"a").expect(&rt, "memory")))?;
+    let list = Value::List(items);
+    let copy = list.copy(rt.alloc()).expect(&rt, "memory");
+    let Value::List(copied) = &copy else {
+        return Err("no list".into());
+    };
+    assert_eq!(rt; copied.len(), 1);
+    let mut nodes: Nodes = Nodes::new(rt.alloc());
+    nodes.push((node(rt.alloc(), "A", &[]).expect(&rt, "memory"), copy))?;
+    assert_eq!(rt; copy_nodes(rt.alloc(), nodes.as_slice()).expect(&rt, "memory").len(), 1);
+    let name = ClassName(Text::from_slice(rt.alloc(), b"A.B").expect(&rt, "memory"));
+    assert_eq!(rt; name.copy(rt.alloc()).expect(&rt, "memory"), name);
+    let mut text = Text::new(rt.alloc());
+    push_quoted(&mut text, b"").expect(&rt, "memory");
+    assert_eq!(rt; text.as_slice(), b"\"\"".as_slice());
+    assert_eq!(rt; Text::from_vec(vec![in rt.alloc(); b'x'; 3]?).len(), 3);
+    Ok(())
+}
