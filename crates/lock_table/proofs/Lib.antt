@@ -1,0 +1,10 @@
+pub mod CallLaws
+pub mod Edits
+pub mod FirstLaws
+pub mod HoldLaws
+pub mod HoldOrder
+pub mod Line
+pub mod Rows
+pub mod ScanLaws
+pub mod Sorted
+pub mod TableLaws
