@@ -3,6 +3,7 @@ pub mod Edits
 pub mod FirstLaws
 pub mod HoldLaws
 pub mod HoldOrder
+pub mod KeptLaws
 pub mod Line
 pub mod Rows
 pub mod ScanLaws

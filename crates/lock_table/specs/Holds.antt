@@ -1,7 +1,7 @@
 -- The holds of all processes, and what becomes of them when locks are granted and given back.
 use Rattle.std.specs.Prelude.{ℕ, ◌+◌, ◌-◌, Bool, true, false, cond, not, ◌&&◌, ◌||◌, List, [], ◌∷◌, unwrap_or, ◌==◌, nat_lt}
 use Rattle.std.specs.declared.cmp.Ordering.{Ordering}
-use Rattle.std.specs.Ordering.{nat_cmp, ordering_then}
+use Rattle.std.specs.Ordering.{nat_cmp, ordering_then, eq_by_cmp}
 use Rattle.std.specs.FinMap.{FinMap, get, insert, remove, retain_keys, entries, from_sorted}
 use Rattle.obj_kinds.specs.declared.op.Pid.{Pid}
 use Rattle.obj_kinds.specs.declared.op.Mode.{Mode}
@@ -59,6 +59,9 @@ is_held c = is_counted c || c.to_end
 abbrev pub kept : Holds → Hold → Kept
 kept hs h = unwrap_or (get hs h) unheld
 
+abbrev pub is_same : Hold → Hold → Bool
+is_same a b = eq_by_cmp hold_cmp a b
+
 -- a hold that is no longer held is in no table
 unfoldable pub put : Holds → Hold → Kept → Holds
 put hs h c = cond (is_held c) (insert hs h c) (remove hs h)
@@ -91,9 +94,13 @@ stays in_tran h = in_tran && is_script h.owner && is_exclusive h.mode
 abbrev pub lowered : Bool → ℕ → Kept → Kept
 lowered stay n c = record { counted = n; to_end = c.to_end || stay }
 
+-- with one count less
+abbrev pub one_back : Bool → Hold → Kept → Kept
+one_back in_tran h c = lowered (stays in_tran h) (c.counted - 1) c
+
 -- one count is given back, where there is one
 unfoldable pub given_back : Holds → Hold → Bool → Holds
-given_back hs h in_tran = let c = kept hs h in cond (is_counted c) (put hs h (lowered (stays in_tran h) (c.counted - 1) c)) hs
+given_back hs h in_tran = let c = kept hs h in cond (is_counted c) (put hs h (one_back in_tran h c)) hs
 
 abbrev pub is_of : Pid → Owner → Hold → Bool
 is_of p o h = h.pid.0 == p.0 && owner_rank h.owner == owner_rank o

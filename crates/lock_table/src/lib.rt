@@ -11,5 +11,8 @@ mod refusal;
 mod search;
 
 pub use hold::{Hold, Kept};
-pub use laws::{first_refuses, no_two_conflict};
+pub use laws::{first_refuses, kept_after_changes, no_two_conflict};
 pub use locks::Locks;
+
+#[cfg(test)]
+mod tests;

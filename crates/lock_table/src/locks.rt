@@ -65,6 +65,16 @@ impl Locks {
         }
     }
 
+    /// How a hold is kept; what isn't held has no count and ends with nothing.
+    pub fn kept(&self, pid: Pid, node: &Node, mode: Mode, owner: Owner) -> Kept
+        ensures { result ≡ kept self.now (hold pid node.now mode owner) }
+    {
+        match search_hold(self.rows.as_slice(), pid, node, mode, owner) {
+            Ok(at) => self.rows[at].1,
+            Err(_) => Kept::unheld(),
+        }
+    }
+
     /// Asks for a lock. It is `Granted`, or else `Held` names the first hold, in the order of
     /// holds, of another process that is on the node, an ancestor or a descendant and excludes
     /// it. A refusal and a want of memory change nothing. A lock that is counted may be asked for
