@@ -1,6 +1,4 @@
-use Rattle.std.proofs.Common.{◌≡◌, sym, ap, ◌∙◌}
-use Rattle.lock_table.specs.declared.hold.Hold.{Hold}
-use Rattle.lock_table.specs.declared.hold.Kept.{Kept}
+use Rattle.std.proofs.Common.{sym, ap, ◌∙◌}
 use Rattle.lock_table.specs.Holds.{hold, kept}
 use Rattle.lock_table.proofs.TableLaws.{kept_hit, kept_gap}
 use Rattle.lock_table.proofs.locks.Locks.kept.Goals as goal
