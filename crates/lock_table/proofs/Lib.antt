@@ -1,0 +1,11 @@
+pub mod CallLaws
+pub mod Edits
+pub mod FirstLaws
+pub mod HoldLaws
+pub mod HoldOrder
+pub mod KeptLaws
+pub mod Line
+pub mod Rows
+pub mod ScanLaws
+pub mod Sorted
+pub mod TableLaws
