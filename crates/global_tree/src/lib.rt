@@ -12,3 +12,6 @@ mod tree;
 pub use run::Pairs;
 pub use search::search_node;
 pub use tree::Tree;
+
+#[cfg(test)]
+mod tests;

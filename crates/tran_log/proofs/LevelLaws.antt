@@ -1,12 +1,10 @@
 -- Laws of levels: what they keep, and what undoing them gives.
-use Rattle.std.proofs.Common.{◌≡◌, ℕ, zero, suc, ◌+◌, ◌-◌, ◌<◌, ◌≤◌, Bool, true, false, cond, List, [], ◌∷◌, ◌++◌, length, Option, Some, None, is_some, unwrap_or, refl, sym, ap, subst, ◌∙◌, arith, IsTrue, get_or}
-use Rattle.std.specs.List.{insert}
+use Rattle.std.proofs.Common.{◌≡◌, ℕ, ◌+◌, ◌-◌, ◌≤◌, Bool, true, false, cond, List, [], ◌∷◌, Option, Some, None, is_some, unwrap_or, refl, sym, ap, ◌∙◌, arith, IsTrue}
 use Rattle.std.specs.Option.{option_or}
 use Rattle.std.specs.Ordering.{eq_by_cmp, is_eq}
 use Rattle.std.proofs.lemmas.Cmp.{tied_itself}
-use Rattle.std.specs.FinMap.{FinMap, find, is_sorted, from_sorted, get, entries, contains_key, get-insert, get-entries, get-empty, entries_sorted, same_map}
+use Rattle.std.specs.FinMap.{find, is_sorted, from_sorted, get, entries, contains_key, get-insert, get-entries, same_map}
 use Rattle.std.specs.FinMap as map
-use Rattle.std.specs.FinMap.Entries.{below_all}
 use Rattle.obj_kinds.specs.declared.node.Node.{Node}
 use Rattle.obj_kinds.specs.declared.value.Value.{Value}
 use Rattle.obj_kinds.specs.Order.{node_cmp}
@@ -15,8 +13,8 @@ use Rattle.global_tree.specs.Maps.{placed}
 use Rattle.global_tree.specs.Search.{IsHit, IsGap}
 use Rattle.global_tree.proofs.MapLaws.{one_key, get-placed}
 use Rattle.global_tree.proofs.Parts.{first, second, find_below}
-use Rattle.global_tree.proofs.Sorted.{find_hit, find_gap, gap_edit, get_sorted, entries_sorted_list, stays}
-use Rattle.tran_log.specs.Levels.{Olds, Level, Levels, Globals, noted_one, noted, put_all, undone, all_undone, committed, has, kept_by, times}
+use Rattle.global_tree.proofs.Sorted.{find_hit, find_gap, get_sorted}
+use Rattle.tran_log.specs.Levels.{Olds, Level, Levels, Globals, noted_one, noted, put_all, undone, all_undone, committed, has, times}
 
 -- ---- one pair
 
@@ -54,14 +52,17 @@ get-noted_one l n v m = by (contains_key l n) refl
   where
     one : eq_by_cmp node_cmp m n ≡ true → contains_key l n ≡ is_some (get l m)
     one g = ap (λ k. contains_key l k) (sym (one_key node_exact m n g))
+
     was : contains_key l n ≡ true → (o : Option (Option Value)) → get l m ≡ o → (b : Bool) → eq_by_cmp node_cmp m n ≡ b → o ≡ cond (is_some o) o (cond b (Some v) o)
     was h (Some x) e b g = refl
     was h None e false g = refl
     was h None e true g = let not_there : is_some (get l m) ≡ false = ap is_some e in cc (one g)
+
     added : contains_key l n ≡ false → (o : Option (Option Value)) → get l m ≡ o → (b : Bool) → eq_by_cmp node_cmp m n ≡ b → cond b (Some v) o ≡ cond (is_some o) o (cond b (Some v) o)
     added h (Some x) e false g = refl
     added h None e b g = refl
     added h (Some x) e true g = let there : is_some (get l m) ≡ true = ap is_some e in cc (one g)
+
     by : (b : Bool) → contains_key l n ≡ b → get (cond b l (map.insert l n v)) m ≡ cond (is_some (get l m)) (get l m) (cond (eq_by_cmp node_cmp m n) (Some v) (get l m))
     by true g = was g (get l m) refl (eq_by_cmp node_cmp m n) refl
     by false g = get-insert node_total l n v m ∙ added g (get l m) refl (eq_by_cmp node_cmp m n) refl
@@ -121,7 +122,7 @@ undone_commit g l k ls = ap (λ h. all_undone h ls) (same_map node_total node_ex
 -- ---- pairs in rising order
 
 -- where a node stands, it stands once
-pub times_rising : (es : Olds) → IsTrue (is_sorted node_cmp es) → (n : Node) → times es n ≡ cond (is_some (find node_cmp n es)) 1 0
+pub times_rising : {X : Type 0} (es : List (Node × X)) → IsTrue (is_sorted node_cmp es) → (n : Node) → times es n ≡ cond (is_some (find node_cmp n es)) 1 0
 times_rising [] h n = refl
 times_rising (e ∷ es) h n = by (eq_by_cmp node_cmp n e.0) refl (times_rising es (second _ _ h) n)
   where

@@ -1,5 +1,5 @@
 -- The vectors of a log, of which the last is the top level.
-use Rattle.std.proofs.Common.{◌≡◌, ℕ, zero, suc, ◌+◌, ◌-◌, ◌<◌, ◌≤◌, List, [], ◌∷◌, ◌++◌, length, map, reverse, take, set, get_or, Option, Bool, true, cond, nat_lt, refl, sym, ap, subst, ◌∙◌, arith, IsTrue}
+use Rattle.std.proofs.Common.{◌≡◌, ℕ, zero, suc, ◌+◌, ◌<◌, ◌≤◌, List, [], ◌∷◌, ◌++◌, length, map, reverse, take, set, get_or, Option, true, cond, nat_lt, refl, sym, ap, subst, ◌∙◌, arith, IsTrue}
 use Rattle.std.proofs.lemmas.List.{reverse-append, map-append, length-reverse, length-map, length-set, get_or-set_same}
 use Rattle.std.proofs.Math.ListN.{get_or-append}
 use Rattle.std.proofs.lemmas.Bool.Decides.{nat_tests}
@@ -10,7 +10,7 @@ use Rattle.obj_kinds.specs.declared.value.Value.{Value}
 use Rattle.obj_kinds.specs.Order.{node_cmp}
 use Rattle.obj_kinds.proofs.OrderLemmas.{node_total}
 use Rattle.global_tree.proofs.Sorted.{entries_sorted_list, from_sorted-nil}
-use Rattle.tran_log.specs.Levels.{Olds, Level, Levels, Globals, put_all, top_undone, Pins, pins_of, noted, has, kept_by, times, begun, note_top, committed}
+use Rattle.tran_log.specs.Levels.{Olds, Levels, Globals, put_all, top_undone, noted, has, kept_by, times, begun, note_top, committed}
 use Rattle.tran_log.specs.Kept.{Kept, level_of, levels_of, IsRising, IsLog}
 use Rattle.tran_log.proofs.LevelLaws.{times_level}
 
@@ -143,7 +143,7 @@ pub noted_pins : (ks : List Kept) (t : ℕ) (e k here v : Kept) (olds : Olds) (l
     → p + has (level_of here) n + times olds n ≡ q + has (level_of v) n → p + kept_by ls n + times olds n ≡ q + kept_by (levels_of (set (set ks t k) t v)) n
 noted_pins ks t e k here v olds ls n p q noted_ is pins =
     let before : kept_by ls n ≡ has (level_of here) n + kept_by (levels_of (take t ks)) n =
-        ap (λ l. kept_by l n) (sym is ∙ levels_split ks t e noted_.top) ∙ ap (λ l. has l n + kept_by (levels_of (take t ks)) n) (sym (top_is ks t e k here v olds noted_)) in
+    ap (λ l. kept_by l n) (sym is ∙ levels_split ks t e noted_.top) ∙ ap (λ l. has l n + kept_by (levels_of (take t ks)) n) (sym (top_is ks t e k here v olds noted_)) in
     let after : kept_by (levels_of (set (set ks t k) t v)) n ≡ has (level_of v) n + kept_by (levels_of (take t ks)) n = ap (λ l. kept_by l n) (levels_after ks t e k here v olds noted_) in
     omega arith
 

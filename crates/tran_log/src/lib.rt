@@ -12,6 +12,11 @@ mod stack;
 
 pub use ends::{Begun, Ended};
 pub use kept::Olds;
-pub use laws::{inner_commits_keep_what_undoing_all_gives, levels_keep_first_values, noted_writes_are_undone};
+pub use laws::{
+    inner_commits_keep_what_undoing_all_gives, levels_keep_first_values, noted_writes_are_undone,
+};
 pub use log::Log;
 pub use olds::olds_of;
+
+#[cfg(test)]
+mod tests;

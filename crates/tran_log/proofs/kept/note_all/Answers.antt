@@ -1,8 +1,8 @@
-use Rattle.std.proofs.Common.{◌≡◌, ◌+◌, ◌≤◌, ap, sym, ◌∙◌, arith}
+use Rattle.std.proofs.Common.{◌+◌, ◌≤◌, arith}
 use Rattle.std.specs.Vec.Iter.{into_iter_items}
 use Rattle.tran_log.specs.Levels.{pins_of, times, has}
 use Rattle.tran_log.specs.Kept.{level_of}
-use Rattle.tran_log.proofs.LevelLaws.{times_here, still_owed}
+use Rattle.tran_log.proofs.LevelLaws.{times_here}
 use Rattle.tran_log.proofs.kept.note_all.Goals as goal
 
 pub note_one-requires-clause-pin : goal.note_one-requires-clause-pin

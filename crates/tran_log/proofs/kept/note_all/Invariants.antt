@@ -1,5 +1,5 @@
-use Rattle.std.proofs.Common.{◌≡◌, ◌+◌, ◌≤◌, ℕ, length, vec_len, vec_capacity}
-use Rattle.std.specs.Vec.Iter.{into_iter_items, into_iter_len}
+use Rattle.std.proofs.Common.{◌≡◌, ◌+◌, ◌≤◌, length, vec_len, vec_capacity}
+use Rattle.std.specs.Vec.Iter.{into_iter_items}
 use Rattle.obj_kinds.specs.declared.node.Node.{Node}
 use Rattle.tran_log.specs.Levels.{noted, has, pins_of, times}
 use Rattle.tran_log.specs.Kept.{level_of, IsRising}

@@ -1,4 +1,4 @@
-use Rattle.std.proofs.Common.{◌≡◌, ◌+◌, ◌-◌, ◌≤◌, Bool, true, false, cond, ℕ, refl, ap, sym, subst, ◌∙◌, IsTrue, arith}
+use Rattle.std.proofs.Common.{◌≡◌, ◌+◌, ◌-◌, ◌≤◌, Bool, true, false, cond, ℕ, refl, ap, sym, subst, ◌∙◌, arith}
 use Rattle.std.specs.Ordering.{eq_by_cmp}
 use Rattle.std.specs.FinMap.{insert}
 use Rattle.obj_kinds.specs.declared.node.Node.{Node}
@@ -6,7 +6,7 @@ use Rattle.obj_kinds.specs.Order.{node_cmp}
 use Rattle.obj_kinds.proofs.OrderLemmas.{node_total, node_exact}
 use Rattle.global_tree.proofs.MapLaws.{one_key}
 use Rattle.global_tree.proofs.PinLaws.{pins_of-unpinned}
-use Rattle.global_tree.proofs.Sorted.{Edit, gap_edit}
+use Rattle.global_tree.proofs.Sorted.{gap_edit}
 use Rattle.tran_log.specs.Levels.{Pins, pins_of, has}
 use Rattle.tran_log.specs.Kept.{level_of}
 use Rattle.tran_log.proofs.LevelLaws.{noted_has, noted_new, has_new, hit_has, gap_lacks}
@@ -27,7 +27,7 @@ returns-in-Ok-clause-level c =
 pub returns-in-Ok-clause-pins : goal.returns-in-Ok-clause-pins
 returns-in-Ok-clause-pins c = λ m.
     one_less c.unpin.new.self.pins c.args.tree.now.pins c.args.node m (has (level_of c.args.kept.now) m)
-      (ap (λ p. pins_of p m) c.unpin.ensures.pins ∙ pins_of-unpinned c.args.tree.now.pins c.args.node m) (omega (arith, c.requires.pin))
+    (ap (λ p. pins_of p m) c.unpin.ensures.pins ∙ pins_of-unpinned c.args.tree.now.pins c.args.node m) (omega (arith, c.requires.pin))
 
 pub returns-in-Ok-insert-clause-rising : goal.returns-in-Ok-insert-clause-rising
 returns-in-Ok-insert-clause-rising c =
@@ -48,5 +48,5 @@ pub returns-in-Ok-insert-clause-pins : goal.returns-in-Ok-insert-clause-pins
 returns-in-Ok-insert-clause-pins c = λ m.
     let gap = rw c.as_slice.ensures.value at c.in-Err.ensures.absent in
     let more : has (level_of c.insert.new.self) m ≡ has (level_of c.args.kept.now) m + cond (eq_by_cmp node_cmp m c.args.node) 1 0 =
-        ap (λ l. has l m) (level_is c) ∙ has_new (level_of c.args.kept.now) c.args.node c.args.value m (gap_lacks c.args.kept.now.items c.args.node c.in-Err.at c.requires.rising gap) in
+    ap (λ l. has l m) (level_is c) ∙ has_new (level_of c.args.kept.now) c.args.node c.args.value m (gap_lacks c.args.kept.now.items c.args.node c.in-Err.at c.requires.rising gap) in
     omega (arith, more)

@@ -1,4 +1,4 @@
-use Rattle.std.proofs.Common.{◌≡◌, ◌+◌, ◌-◌, ◌<◌, ◌≤◌, ◌∷◌, cond, ap, sym, subst, ◌∙◌, arith, IsTrue}
+use Rattle.std.proofs.Common.{◌≡◌, ◌+◌, ◌-◌, ◌≤◌, ◌∷◌, cond, ap, sym, ◌∙◌, arith, IsTrue}
 use Rattle.std.specs.Ordering.{eq_by_cmp}
 use Rattle.std.specs.Vec.Iter.{into_iter_items}
 use Rattle.std.specs.FinMap.{is_sorted}
@@ -41,6 +41,6 @@ loop-pair-preserved c =
       pins = λ m.
           let was : pins_of at.tree.pins m + times c.args.kept.items m ≡ pins_of c.args.tree.now.pins m + (cond (eq_by_cmp node_cmp m e.0) 1 0 + times rest m) = rw steps at (at.invariant.pins m) in
           let less : pins_of c.unpin.new.self.pins m ≡ pins_of at.tree.pins m - cond (eq_by_cmp node_cmp m e.0) 1 0 =
-              ap (λ p. pins_of p m) c.unpin.ensures.pins ∙ pins_of-unpinned c.put_back.new.self.pins e.0 m ∙ ap (λ p. pins_of p m - cond (eq_by_cmp node_cmp m e.0) 1 0) c.put_back.ensures.pins in
+          ap (λ p. pins_of p m) c.unpin.ensures.pins ∙ pins_of-unpinned c.put_back.new.self.pins e.0 m ∙ ap (λ p. pins_of p m - cond (eq_by_cmp node_cmp m e.0) 1 0) c.put_back.ensures.pins in
           ap (λ k. k + times c.args.kept.items m) less ∙ one_back (pins_of at.tree.pins m) (times c.args.kept.items m) (pins_of c.args.tree.now.pins m) (cond (eq_by_cmp node_cmp m e.0) 1 0) (times rest m) was (c.requires.pins m);
     }

@@ -1,4 +1,4 @@
-use Rattle.std.proofs.Common.{◌≡◌, ◌+◌, ℕ, IsTrue}
+use Rattle.std.proofs.Common.{◌≡◌, ◌+◌, IsTrue}
 use Rattle.std.specs.Vec.Iter.{into_iter_items}
 use Rattle.std.specs.FinMap.{is_sorted}
 use Rattle.obj_kinds.specs.declared.node.Node.{Node}

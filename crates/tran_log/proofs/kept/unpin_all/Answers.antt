@@ -5,7 +5,7 @@ use Rattle.obj_kinds.specs.declared.value.Value.{Value}
 use Rattle.obj_kinds.specs.Order.{node_cmp}
 use Rattle.global_tree.proofs.PinLaws.{pins_of-unpinned}
 use Rattle.tran_log.specs.Levels.{Olds, pins_of, times}
-use Rattle.tran_log.proofs.LevelLaws.{times_here, one_back, still_owed}
+use Rattle.tran_log.proofs.LevelLaws.{times_here, one_back}
 use Rattle.tran_log.proofs.kept.unpin_all.Goals as goal
 
 -- the next pair and what is left behind it
@@ -34,7 +34,7 @@ loop-pair-preserved c =
       pins = λ m.
           let was : pins_of at.tree.pins m + times kept m ≡ pins_of c.args.tree.now.pins m + (cond (eq_by_cmp node_cmp m e.0) 1 0 + times (drop (suc at.pair-index) kept) m) = rw next at (at.invariant.pins m) in
           let less : pins_of c.unpin.new.self.pins m ≡ pins_of at.tree.pins m - cond (eq_by_cmp node_cmp m e.0) 1 0 =
-              ap (λ p. pins_of p m) c.unpin.ensures.pins ∙ pins_of-unpinned at.tree.pins e.0 m in
+          ap (λ p. pins_of p m) c.unpin.ensures.pins ∙ pins_of-unpinned at.tree.pins e.0 m in
           ap (λ k. k + times kept m) less
           ∙ one_back (pins_of at.tree.pins m) (times kept m) (pins_of c.args.tree.now.pins m) (cond (eq_by_cmp node_cmp m e.0) 1 0) (times (drop (suc at.pair-index) kept) m) was (c.requires.pins m)
           ∙ ap (λ i. pins_of c.args.tree.now.pins m + times (drop i kept) m) (sym (add-one at.pair-index));

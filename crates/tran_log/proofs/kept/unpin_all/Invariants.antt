@@ -1,4 +1,4 @@
-use Rattle.std.proofs.Common.{◌≡◌, ◌+◌, ℕ, drop}
+use Rattle.std.proofs.Common.{◌≡◌, ◌+◌, drop}
 use Rattle.obj_kinds.specs.declared.node.Node.{Node}
 use Rattle.tran_log.specs.Levels.{pins_of, times}
 use Rattle.tran_log.proofs.kept.unpin_all.Given as goal

@@ -1,4 +1,4 @@
-use Rattle.std.proofs.Common.{◌≡◌, ◌-◌, OnErr, Result, Ok, Err, refl, ap, ◌∙◌, arith}
+use Rattle.std.proofs.Common.{◌-◌, OnErr, Result, Ok, Err, refl, ap, ◌∙◌, arith}
 use Rattle.tran_log.specs.Levels.{pins_of}
 use Rattle.tran_log.specs.Kept.{Kept}
 use Rattle.tran_log.proofs.StackLaws.{levels_same, log_set, Joined, joined_rest, joined_levels, joined_owed, joined_pins}
@@ -15,8 +15,8 @@ returns-in_err-reserve-clause-err c =
 pub note_all-requires-clause-pins : goal.note_all-requires-clause-pins
 note_all-requires-clause-pins c = λ m.
     joined_owed c.args.levels.now.items (c.len-top.result - 1 - 1) c.index_mut.result.now c.reserve.new.self c.pop.new.self.items c.in-Some.kept c.index_mut-in-Some.result.now m (pins_of c.args.tree.now.pins m)
-      (record { inner = omega arith; was = c.index_mut.ensures.value; same = c.in_ok-reserve.ensures.items; popped = c.in-Some.ensures.items; log = c.requires.log })
-      c.index_mut-in-Some.ensures.value (c.requires.pins m)
+    (record { inner = omega arith; was = c.index_mut.ensures.value; same = c.in_ok-reserve.ensures.items; popped = c.in-Some.ensures.items; log = c.requires.log })
+    c.index_mut-in-Some.ensures.value (c.requires.pins m)
 
 joined : (c : goal.After-levels-in-Some-1) → Joined c.args.levels.now.items (c.len-top.result - 1 - 1) c.index_mut.result.now c.reserve.new.self c.pop.new.self.items c.in-Some.kept
 joined c = record { inner = omega arith; was = c.index_mut.ensures.value; same = c.in_ok-reserve.ensures.items; popped = c.in-Some.ensures.items; log = c.requires.log }

@@ -1,4 +1,4 @@
-use Rattle.std.proofs.Common.{◌≡◌, ◌+◌, ◌≤◌, ℕ, length}
+use Rattle.std.proofs.Common.{◌≡◌, ◌+◌, length}
 use Rattle.obj_kinds.specs.declared.node.Node.{Node}
 use Rattle.tran_log.specs.Levels.{all_undone, kept_by, pins_of}
 use Rattle.tran_log.proofs.log.Log.undo_all.Given as goal
