@@ -46,9 +46,10 @@ turn_more props rest p few found =
 pub turn_pushed : (props props' rest others : Tokens) (name name' : List ℕ) (r : Option Tokens) → length props < 200 → props' ≡ props ++ name' ∷ [] → name' ≡ name → Some (name, others) ≡ property_in rest → with_those props rest ≡ r
     → (length props' ≤ 200) × (with_those props' others ≡ r)
 turn_pushed props props' rest others name name' r few pushed same found read =
-    let is : props' ≡ props ++ name ∷ [] = pushed ∙ ap (λ n. props ++ n ∷ []) same in
-    (subst (λ (ps : Tokens). length ps ≤ 200) (sym is) (omega (arith, length-append props (name ∷ []))),
-     subst (λ (ps : Tokens). with_those ps others ≡ r) (sym is) (turn_more props rest (name, others) few found ∙ read))
+    let is : props' ≡ props ++ name ∷ [] = pushed ∙ ap (λ n. props ++ n ∷ []) same in (
+      subst (λ (ps : Tokens). length ps ≤ 200) (sym is) (omega (arith, length-append props (name ∷ []))),
+      subst (λ (ps : Tokens). with_those ps others ≡ r) (sym is) (turn_more props rest (name, others) few found ∙ read),
+    )
 
 pub turn_end : (props rest : Tokens) → None ≡ property_in rest → with_those props rest ≡ cond (is_last_brace rest) (Some props) None
 turn_end props rest none = ap (option_map (λ more. props ++ more)) (properties_in-end (200 - length props) rest (sym none)) ∙ by (is_last_brace rest)

@@ -34,6 +34,7 @@ named-is test (token ∷ tokens) n h = by (test token) refl h
   where
     of : (m : List ℕ × Tokens) → m ≡ n → test m.0 ≡ true → (m.0 ∷ m.1 ≡ n.0 ∷ n.1) × (test n.0 ≡ true)
     of m same e = (ap (λ (o : List ℕ × Tokens). o.0 ∷ o.1) same, subst (λ (o : List ℕ × Tokens). test o.0 ≡ true) same e)
+
     by : (b : Bool) → test token ≡ b → cond b (Some (token, tokens)) None ≡ Some n → (token ∷ tokens ≡ n.0 ∷ n.1) × (test n.0 ≡ true)
     by true e h = of (token, tokens) (cc) e
     by false e h = cc
@@ -88,10 +89,11 @@ module _ (test : List ℕ → Bool) (w : Wanted) (ws : List Wanted) where
       let first = after-is w tokens name.0 name.1 in
       let second = named-is test name.0 ended.0 name.2 in
       let third = named_until-is ws ended.0 p ended.2 in
-      let fits : is_wanted (Exact p.0) ended.0.0 ≡ true = subst (λ n. is_wanted (Exact n) ended.0.0 ≡ true) (sym third.0) (exact_fits ended.0.0) in
-      (subst (λ n. test n ≡ true) (sym third.0) second.1,
-       taken_more w (Exact p.0 ∷ ws) tokens name.0 p.1 first
-       (taken_more (Exact p.0) ws name.0 ended.0.1 p.1 record { token = ended.0.0; split = second.0; fits = fits } third.1))
+      let fits : is_wanted (Exact p.0) ended.0.0 ≡ true = subst (λ n. is_wanted (Exact n) ended.0.0 ≡ true) (sym third.0) (exact_fits ended.0.0) in (
+        subst (λ n. test n ≡ true) (sym third.0) second.1,
+        taken_more w (Exact p.0 ∷ ws) tokens name.0 p.1 first
+            (taken_more (Exact p.0) ws name.0 ended.0.1 p.1 record { token = ended.0.0; split = second.0; fits = fits } third.1),
+      )
 
   member-takes : (name : List ℕ) (vs : List Wanted) (tokens : Tokens) → test name ≡ true → AreWanted (w ∷ Exact name ∷ (ws ++ vs)) tokens → (rest : Tokens) × (member tokens ≡ Some (name, rest)) × AreWanted vs rest
   member-takes name vs [] passes h = absurd h

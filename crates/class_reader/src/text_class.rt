@@ -120,7 +120,9 @@ fn is_last_brace(tokens: &[Text]) -> bool
 fn has_name(names: &[Text], name: &Text) -> bool
     ensures { result ≡ list_any (λ other. bytes_eq other name.now) names.now }
 {
-    names.iter().any(|other| other.as_slice() == name.as_slice())
+    names
+        .iter()
+        .any(|other| other.as_slice() == name.as_slice())
 }
 
 fn are_distinct(names: &[Text]) -> bool

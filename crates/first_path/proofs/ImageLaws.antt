@@ -42,7 +42,7 @@ or_nothing (Some a) = refl
 after_sets-whole : (es : List (Node × Value)) → IsDistinct es → after_sets empty es ≡ from_entries es
 after_sets-whole es distinct =
     same_map node_total node_exact _ _ (λ q.
-      get-after_sets es empty q distinct ∙ ap (or_else (find node_cmp q es)) (get-empty node_cmp q) ∙ or_nothing (find node_cmp q es) ∙ sym (get-from_entries node_total es q))
+    get-after_sets es empty q distinct ∙ ap (or_else (find node_cmp q es)) (get-empty node_cmp q) ∙ or_nothing (find node_cmp q es) ∙ sym (get-from_entries node_total es q))
 
 -- NODES OF AN IMAGE
 
@@ -106,7 +106,7 @@ row_set class k saved fields g g' node v less is at row set =
     let next : k + 1 ≡ suc k = omega arith in
     let id : k + 1 + 1 ≡ suc (k + 1) = omega arith in
     let rest : drop k saved ≡ fields ∷ drop (k + 1) saved =
-      drop-cons saved k fields less ∙ ap (λ f. f ∷ drop (suc k) saved) (sym is) ∙ ap (λ j. fields ∷ drop j saved) (sym next) in
+    drop-cons saved k fields less ∙ ap (λ f. f ∷ drop (suc k) saved) (sym is) ∙ ap (λ j. fields ∷ drop j saved) (sym next) in
     let made : g' ≡ insert g (row_node class (k + 1)) (row_of fields) = set ∙ λ i. insert g (at i) (row i) in
     (λ i. after_sets (made i) (rows_from class (id i) (drop (k + 1) saved))) ∙ ap (λ r. after_sets g (rows_from class (k + 1) r)) (sym rest)
 

@@ -52,8 +52,10 @@ piece-is test is_kind text p h = by (is_kind (take (span test text) text)) refl 
         at : (b : Bool) → test byte ≡ b → list_all test (take (span test t) t) ≡ true → list_all test (take (cond b (suc (span test t)) 0) (byte ∷ t)) ≡ true
         at true e more = rw e more
         at false e more = refl
+
     parts : (q : List ℕ × List ℕ) → q ≡ p → (text ≡ q.0 ++ q.1) × (is_kind q.0 ≡ true) × (list_all test q.0 ≡ true) → (text ≡ p.0 ++ p.1) × (is_kind p.0 ≡ true) × (list_all test p.0 ≡ true)
     parts q same facts = subst (λ (o : List ℕ × List ℕ). (text ≡ o.0 ++ o.1) × (is_kind o.0 ≡ true) × (list_all test o.0 ≡ true)) same facts
+
     by : (b : Bool) → is_kind (take (span test text) text) ≡ b → cond b (Some (take (span test text) text, drop (span test text) text)) None ≡ Some p → (text ≡ p.0 ++ p.1) × (is_kind p.0 ≡ true) × (list_all test p.0 ≡ true)
     by true e h = parts (take (span test text) text, drop (span test text) text) (cc) (sym (take-append-drop (span test text) text), e, all text)
     by false e h = cc
@@ -77,7 +79,7 @@ pub piece-takes : (test : ℕ → Bool) (is_kind : List ℕ → Bool) (word : Li
     → piece test is_kind (word ++ byte ∷ rest) ≡ Some (word, byte ∷ rest)
 piece-takes test is_kind word byte rest all kind ends =
     let at : (n : ℕ) → n ≡ length word → cond {A = Option (List ℕ × List ℕ)} (is_kind (take n (word ++ byte ∷ rest))) (Some (take n (word ++ byte ∷ rest), drop n (word ++ byte ∷ rest))) None ≡ Some (word, byte ∷ rest) =
-      λ n same. rw (same, take-front word (byte ∷ rest), drop-front word (byte ∷ rest), kind) refl in
+    λ n same. rw (same, take-front word (byte ∷ rest), drop-front word (byte ∷ rest), kind) refl in
     at (span test (word ++ byte ∷ rest)) (span-all test word byte rest all ends)
 
 -- a name has letters and digits alone
@@ -134,7 +136,7 @@ new_in-is class text v h =
     let ended = map-is (λ (rest : List ℕ). (first.0.0, rest)) (new_end class first.0.1) v first.2 in
     subst (λ (w : List ℕ × List ℕ). IsSpelt class text (New w.0) w.1) ended.2 record {
       split = set.0 ∙ ap (λ r. codes "Set " ++ (first.0.0 ++ r)) (new_end-is class first.0.1 ended.0 ended.1)
-        ∙ spelt5 (codes "Set ") first.0.0 (codes "=##class(") class (codes ").%New()\n") ended.0;
+          ∙ spelt5 (codes "Set ") first.0.0 (codes "=##class(") class (codes ").%New()\n") ended.0;
       formed = set.1;
     }
 
@@ -147,7 +149,7 @@ save_in-is class text v h =
     let ended = map-is (λ (rest : List ℕ). (first.0.0, rest)) (after (codes ".%Save(),!\n") first.0.1) v first.2 in
     subst (λ (w : List ℕ × List ℕ). IsSpelt class text (Save w.0) w.1) ended.2 record {
       split = after-is (codes "Write ") text begun.0 begun.1 ∙ ap (λ r. codes "Write " ++ r) (name.0 ∙ ap (λ r. first.0.0 ++ r) (after-is (codes ".%Save(),!\n") first.0.1 ended.0 ended.1))
-        ∙ spelt3 (codes "Write ") first.0.0 (codes ".%Save(),!\n") ended.0;
+          ∙ spelt3 (codes "Write ") first.0.0 (codes ".%Save(),!\n") ended.0;
       formed = name.1;
     }
 
@@ -170,7 +172,7 @@ value_in-is : (text : List ℕ) (a : Assigned) → value_in text ≡ Some a → 
 unfolding value_in
 value_in-is text a h =
     let prop = and_then-is (λ (p : List ℕ × List ℕ). option_and_then (λ (t : List ℕ × List ℕ). option_map (λ (rest : List ℕ). (p.0, t.0, rest)) (after (codes "\"\n") t.1)) (option_and_then text_in (after (codes "=\"") p.1)))
-      (option_and_then name_in (after (codes ".") text)) a h in
+    (option_and_then name_in (after (codes ".") text)) a h in
     let begun = and_then-is name_in (after (codes ".") text) prop.0 prop.1 in
     let name = name_in-is begun.0 prop.0 begun.2 in
     let value = and_then-is (λ (t : List ℕ × List ℕ). option_map (λ (rest : List ℕ). (prop.0.0, t.0, rest)) (after (codes "\"\n") t.1)) (option_and_then text_in (after (codes "=\"") prop.0.1)) a prop.2 in
@@ -179,9 +181,9 @@ value_in-is text a h =
     let ended = map-is (λ (rest : List ℕ). (prop.0.0, value.0.0, rest)) (after (codes "\"\n") value.0.1) a value.2 in
     subst (IsAssigned text) ended.2 record {
       split = after-is (codes ".") text begun.0 begun.1
-        ∙ ap (λ r. codes "." ++ r) (name.0
-        ∙ ap (λ r. prop.0.0 ++ r) (after-is (codes "=\"") prop.0.1 quoted.0 quoted.1
-        ∙ ap (λ r. codes "=\"" ++ r) (plain.0 ∙ ap (λ r. value.0.0 ++ r) (after-is (codes "\"\n") value.0.1 ended.0 ended.1))));
+          ∙ ap (λ r. codes "." ++ r) (name.0
+          ∙ ap (λ r. prop.0.0 ++ r) (after-is (codes "=\"") prop.0.1 quoted.0 quoted.1
+          ∙ ap (λ r. codes "=\"" ++ r) (plain.0 ∙ ap (λ r. value.0.0 ++ r) (after-is (codes "\"\n") value.0.1 ended.0 ended.1))));
       prop = name.1;
       short = plain.1;
       plain = plain.2;
@@ -196,7 +198,7 @@ fill_in-is class text f h =
     let value = value_in-is first.0.1 ended.0 ended.1 in
     subst (λ (g : List ℕ × List ℕ × List ℕ × List ℕ). IsSpelt class text (Fill g.0 g.1 g.2) g.3) ended.2 record {
       split = set.0 ∙ ap (λ r. codes "Set " ++ (first.0.0 ++ r)) value.split
-        ∙ spelt7 (codes "Set ") first.0.0 (codes ".") ended.0.0 (codes "=\"") ended.0.1 (codes "\"\n") ended.0.2;
+          ∙ spelt7 (codes "Set ") first.0.0 (codes ".") ended.0.0 (codes "=\"") ended.0.1 (codes "\"\n") ended.0.2;
       formed = and_all (is_name first.0.0) (is_name ended.0.0) (is_short ended.0.1) (list_all is_text_byte ended.0.1) set.1 value.prop value.short value.plain;
     }
 
@@ -206,13 +208,16 @@ line_in-is class text p h = new (new_in class text) refl h
   where
     at : (q : Line × List ℕ) → q ≡ p → IsSpelt class text q.0 q.1 → IsSpelt class text p.0 p.1
     at q same facts = subst (λ (o : Line × List ℕ). IsSpelt class text o.0 o.1) same facts
+
     save : (o : Option (List ℕ × List ℕ)) → save_in text ≡ o → option_map {U = Line × List ℕ} (λ v. (Save v.0, v.1)) o ≡ Some p → IsSpelt class text p.0 p.1
     save None e h = cc
     save (Some v) e h = at (Save v.0, v.1) (cc) (save_in-is class text v e)
+
     fill : (o : Option (List ℕ × List ℕ × List ℕ × List ℕ)) → fill_in text ≡ o → first_of {A = Line × List ℕ} (option_map (λ f. (Fill f.0 f.1 f.2, f.3)) o) (option_map (λ v. (Save v.0, v.1)) (save_in text)) ≡ Some p → IsSpelt class text p.0 p.1
     fill None e h = save (save_in text) refl h
     fill (Some f) e h = at (Fill f.0 f.1 f.2, f.3) (cc) (fill_in-is class text f e)
+
     new : (o : Option (List ℕ × List ℕ)) → new_in class text ≡ o
-      → first_of {A = Line × List ℕ} (option_map (λ v. (New v.0, v.1)) o) (first_of (option_map (λ f. (Fill f.0 f.1 f.2, f.3)) (fill_in text)) (option_map (λ v. (Save v.0, v.1)) (save_in text))) ≡ Some p → IsSpelt class text p.0 p.1
+        → first_of {A = Line × List ℕ} (option_map (λ v. (New v.0, v.1)) o) (first_of (option_map (λ f. (Fill f.0 f.1 f.2, f.3)) (fill_in text)) (option_map (λ v. (Save v.0, v.1)) (save_in text))) ≡ Some p → IsSpelt class text p.0 p.1
     new None e h = fill (fill_in text) refl h
     new (Some v) e h = at (New v.0, v.1) (cc) (new_in-is class text v e)

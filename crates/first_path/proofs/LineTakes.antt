@@ -29,7 +29,7 @@ value_in-takes : (prop text rest : List ℕ) → is_name prop ≡ true → is_sh
 unfolding value_in
 value_in-takes prop text rest is short plain =
     ap (option_and_then (λ (p : List ℕ × List ℕ). option_and_then (λ (t : List ℕ × List ℕ). option_map (λ (r : List ℕ). (p.0, t.0, r)) (after (codes "\"\n") t.1)) (option_and_then text_in (after (codes "=\"") p.1))))
-      (name_in-takes prop 61 (codes "\"" ++ (text ++ (codes "\"\n" ++ rest))) is refl)
+    (name_in-takes prop 61 (codes "\"" ++ (text ++ (codes "\"\n" ++ rest))) is refl)
     ∙ ap (option_and_then (λ (t : List ℕ × List ℕ). option_map (λ (r : List ℕ). (prop, t.0, r)) (after (codes "\"\n") t.1))) (piece-takes is_text_byte is_short text 34 (codes "\n" ++ rest) plain short refl)
 
 fill_in-takes : (var prop text rest : List ℕ) → is_name var ≡ true → is_name prop ≡ true → is_short text ≡ true → list_all is_text_byte text ≡ true

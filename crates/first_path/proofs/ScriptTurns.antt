@@ -51,14 +51,14 @@ next_turn class props text byte here room old new line rest is found understood 
   made_is = made_after is.before old new line is.made_is understood.learnt;
   few = few_after old new line room is.few understood.learnt;
   read =
-    let others = script_in room class props (line ∷ is.before) rest in
-    let acts : act_of props is.before line ≡ Some understood.act = sym (act_with-same props (names_of old) (named is.before) is.names line) ∙ understood.means in
-    let whole : script_in (suc room) class props is.before (byte ∷ here) ≡ option_map (λ more. understood.act ∷ more) others =
+      let others = script_in room class props (line ∷ is.before) rest in
+      let acts : act_of props is.before line ≡ Some understood.act = sym (act_with-same props (names_of old) (named is.before) is.names line) ∙ understood.means in
+      let whole : script_in (suc room) class props is.before (byte ∷ here) ≡ option_map (λ more. understood.act ∷ more) others =
       script_in-step room class props is.before byte here line rest found ∙ ap (λ a. with_act a others) acts in
-    ap (λ acts. option_map (λ more. acts ++ more) others) understood.added
-    ∙ joined old.acts understood.act others
-    ∙ ap (option_map (λ more. old.acts ++ more)) (sym whole)
-    ∙ is.read;
+      ap (λ acts. option_map (λ more. acts ++ more) others) understood.added
+      ∙ joined old.acts understood.act others
+      ∙ ap (option_map (λ more. old.acts ++ more)) (sym whole)
+      ∙ is.read;
 }
 
 pub turn_full : (class : List ℕ) (props : List (List ℕ)) (text : List ℕ) (byte : ℕ) (here : List ℕ) (r : Reading) → IsBetween class props text (byte ∷ here) 0 r → script_in 10000 class props [] text ≡ None

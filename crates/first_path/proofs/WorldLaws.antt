@@ -53,7 +53,7 @@ values-set before object start (suc k) (suc n) text less =
     let next : start + suc k ≡ suc start + k = omega arith in
     let first : start + suc k ≢ start = omega arith in
     λ i. set_elsewhere before object (start + suc k) start text first i
-      ∷ (ap (λ p. values_from (Fill object p text ∷ before) object (suc start) n) next ∙ values-set before object (suc start) k n text (omega arith)) i
+    ∷ (ap (λ p. values_from (Fill object p text ∷ before) object (suc start) n) next ∙ values-set before object (suc start) k n text (omega arith)) i
 
 length-values : (before : Past) (object place n : ℕ) → length (values_from before object place n) ≡ n
 length-values before object place zero = refl
@@ -137,11 +137,13 @@ module _ (n : ℕ) (before : Past) (s : Session) (stands : Stands n before s) (k
     where
       old_is : (object : ℕ) → object_after n before object ≡ object_after n (Make ∷ before) object
       old_is object = λ i. record { fields = sym (fields_same Make (λ o p. refl) object) i; row = place_among (first_saves before) object }
+
       new_is : blank s.properties ≡ object_after n (Make ∷ before) (objects_made before)
       new_is =
           let none = values-unset (Make ∷ before) (objects_made before) 0 n (λ p. value-unset n before (objects_made before) p known (omega arith)) in
           let row = place-above (objects_made before) (first_saves before) (objects_made before) (saves-below n before known) (omega arith) in
           λ i. record { fields = (ap (λ m. replicate m []) stands.properties ∙ sym none) i; row = sym row i }
+
       at : (object : ℕ) → object < suc (objects_made before) → (b : Bool) → (object == objects_made before) ≡ b → slice_get (s.objects.items ++ blank s.properties ∷ []) object ≡ Some (object_after n (Make ∷ before) object)
       at object less true e =
           let last : object ≡ objects_made before = same_number object (objects_made before) e in
@@ -167,6 +169,7 @@ module _ (n : ℕ) (before : Past) (s : Session) (stands : Stands n before s) (k
           let start : 0 + place ≡ place = omega arith in
           let fields = ap (λ p. values_from (Fill object p text ∷ before) object 0 n) (sym start) ∙ values-set before object 0 place n text less in
           λ i. record { fields = (ap (λ (q : Object). slice_set q.fields place text) same ∙ sym fields) i; row = (ap (λ (q : Object). q.row) same) i }
+
       at : (k : ℕ) → k < objects_made before → (b : Bool) → (k == object) ≡ b → slice_get (slice_set s.objects.items object (record o { fields = slice_set o.fields place text })) k ≡ Some (object_after n (Fill object place text ∷ before) k)
       at k small true e =
           let same : k ≡ object = same_number k object e in
@@ -187,16 +190,18 @@ module _ (n : ℕ) (before : Past) (s : Session) (stands : Stands n before s) (k
     made = let e = stands.made in omega (arith, ap length set, length-set s.objects.items object (record o { row = Some (length s.saved) }));
     objects = λ k small. subst (λ (os : List Object). slice_get os k ≡ Some (object_after n (Save object ∷ before) k)) (sym set) (at k small (k == object) refl);
     saved =
-      saved ∙ (λ i. stands.saved i ++ (ap (λ (q : Object). q.fields) (found_is object o is) i ∷ [])) ∙ sym (world-new n before object none);
+        saved ∙ (λ i. stands.saved i ++ (ap (λ (q : Object). q.fields) (found_is object o is) i ∷ [])) ∙ sym (world-new n before object none);
   }
     where
       rows : length s.saved ≡ length (first_saves before)
       rows = ap length stands.saved ∙ length-map (first_saves before) (saved_fields n before)
+
       set_is : record o { row = Some (length s.saved) } ≡ object_after n (Save object ∷ before) object
       set_is =
           let same = found_is object o is in
           let place = ap (λ fs. place_among fs object) (first_saves-new before object none) ∙ place-append_new (first_saves before) object none in
           λ i. record { fields = (ap (λ (q : Object). q.fields) same ∙ sym (fields_same (Save object) (λ a p. refl) object)) i; row = (ap Some rows ∙ sym place) i }
+
       at : (k : ℕ) → k < objects_made before → (b : Bool) → (k == object) ≡ b → slice_get (slice_set s.objects.items object (record o { row = Some (length s.saved) })) k ≡ Some (object_after n (Save object ∷ before) k)
       at k small true e =
           let same : k ≡ object = same_number k object e in
@@ -216,7 +221,7 @@ module _ (n : ℕ) (before : Past) (s : Session) (stands : Stands n before s) (k
     properties = properties ∙ stands.properties;
     made = let e = stands.made in omega (arith, ap length same_objects);
     objects = λ k small. subst (λ (os : List Object). slice_get os k ≡ Some (object_after n (Save object ∷ before) k)) (sym same_objects)
-      (stands.objects k small ∙ ap Some (λ i. record { fields = sym (fields_same (Save object) (λ a p. refl) k) i; row = place_among (sym (first_saves-old before object row some) i) k }));
+        (stands.objects k small ∙ ap Some (λ i. record { fields = sym (fields_same (Save object) (λ a p. refl) k) i; row = place_among (sym (first_saves-old before object row some) i) k }));
     saved = saved ∙ (λ i. slice_set (stands.saved i) row (ap (λ (q : Object). q.fields) (found_is object o is) i)) ∙ sym (world-old n before object row some);
   }
 
@@ -225,6 +230,7 @@ module _ (n : ℕ) (before : Past) (s : Session) (stands : Stands n before s) (k
     where
       row_is : o.row ≡ place_among (first_saves before) object
       row_is = ap (λ (q : Object). q.row) (found_is object o is)
+
       by : (p : Option ℕ) → place_among (first_saves before) object ≡ p → (r : Option ℕ) → o.row ≡ r → SavesAt r object o s new → Stands n (Save object ∷ before) new
       by None e None r change = save_new object new o is e r properties change.0 change.1
       by None e (Some m) r change = let k = row_is in cc

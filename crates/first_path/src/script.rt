@@ -66,12 +66,7 @@ impl Reading {
         Ok(())
     }
 
-    fn fill(
-        &mut self,
-        alloc: Global,
-        props: &[Text],
-        setting: Setting<'_>,
-    ) -> Result<(), FormError>
+    fn fill(&mut self, alloc: Global, props: &[Text], setting: Setting<'_>) -> Result<(), FormError>
         ensures ok { OnOk result (IsUnderstood props.now (Fill setting.entry.var.now setting.entry.prop.now setting.entry.text.now) self.old self.new) }
         ensures refused { result ≡ Err FormError.NotInForm → IsNoAct props.now (Fill setting.entry.var.now setting.entry.prop.now setting.entry.text.now) self.old }
     {
@@ -130,11 +125,7 @@ impl Reading {
 /// - `Write V.%Save(),!`, with V set by an earlier line of the first form
 ///
 /// with the name of the class as C. `NotInForm` comes exactly where the text is of no such script.
-pub fn read_script(
-    alloc: Global,
-    class: &TextClass,
-    text: &[u8],
-) -> Result<Items<Act>, FormError>
+pub fn read_script(alloc: Global, class: &TextClass, text: &[u8]) -> Result<Items<Act>, FormError>
     ensures found { IfOk result (λ acts. (lines : List Line) × IsScript class.now.name.0 class.now.props text.now lines acts) }
     ensures few { IfOk result (λ acts. length acts ≤ MAX_LINES) }
     ensures known { IfOk result (λ acts. AreKnown (length class.now.props) [] acts) }

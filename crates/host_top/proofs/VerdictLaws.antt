@@ -17,40 +17,103 @@ use Rattle.host_top.specs.declared.verdict.Verdict.TheVariants.{Done, Stopped, R
 module _ (D : Type 0) (bytes : D → Option (List ℕ)) (faults : D → ℕ) (s : Seen) (devices devices' : List D) where
   pub says : (v : Verdict) → Holds D bytes faults s devices devices' v → Says D bytes faults s devices devices' (verdict_status v)
   says Done h = record {
-    done = λ e. h; stopped = λ e. absurd (omega arith); too_long = λ e. absurd (omega arith); no_memory = λ e. absurd (omega arith); not_read = λ e. absurd (omega arith);
-    not_put = λ e. absurd (omega arith); bad_words = λ e. absurd (omega arith); bad_form = λ e. absurd (omega arith); no_other = inl refl;
+    done = λ e. h;
+    stopped = λ e. absurd (omega arith);
+    too_long = λ e. absurd (omega arith);
+    no_memory = λ e. absurd (omega arith);
+    not_read = λ e. absurd (omega arith);
+    not_put = λ e. absurd (omega arith);
+    bad_words = λ e. absurd (omega arith);
+    bad_form = λ e. absurd (omega arith);
+    no_other = inl refl;
   }
   says Stopped h = record {
-    done = λ e. absurd (omega arith); stopped = λ e. h; too_long = λ e. absurd (omega arith); no_memory = λ e. absurd (omega arith); not_read = λ e. absurd (omega arith);
-    not_put = λ e. absurd (omega arith); bad_words = λ e. absurd (omega arith); bad_form = λ e. absurd (omega arith); no_other = inr (inl refl);
+    done = λ e. absurd (omega arith);
+    stopped = λ e. h;
+    too_long = λ e. absurd (omega arith);
+    no_memory = λ e. absurd (omega arith);
+    not_read = λ e. absurd (omega arith);
+    not_put = λ e. absurd (omega arith);
+    bad_words = λ e. absurd (omega arith);
+    bad_form = λ e. absurd (omega arith);
+    no_other = inr (inl refl);
   }
   says (Refused BadWords) h = record {
-    done = λ e. absurd (omega arith); stopped = λ e. absurd (omega arith); too_long = λ e. absurd (omega arith); no_memory = λ e. absurd (omega arith); not_read = λ e. absurd (omega arith);
-    not_put = λ e. absurd (omega arith); bad_words = λ e. (h.0.0, h.0.1, h.1, h.2); bad_form = λ e. absurd (omega arith); no_other = inr (inr (inr (inr (inr (inr (inl refl))))));
+    done = λ e. absurd (omega arith);
+    stopped = λ e. absurd (omega arith);
+    too_long = λ e. absurd (omega arith);
+    no_memory = λ e. absurd (omega arith);
+    not_read = λ e. absurd (omega arith);
+    not_put = λ e. absurd (omega arith);
+    bad_words = λ e. (h.0.0, h.0.1, h.1, h.2);
+    bad_form = λ e. absurd (omega arith);
+    no_other = inr (inr (inr (inr (inr (inr (inl refl))))));
   }
   says (Refused (TooLong name)) h = record {
-    done = λ e. absurd (omega arith); stopped = λ e. absurd (omega arith); too_long = λ e. (name.now, h.0, h.1, h.2); no_memory = λ e. absurd (omega arith); not_read = λ e. absurd (omega arith);
-    not_put = λ e. absurd (omega arith); bad_words = λ e. absurd (omega arith); bad_form = λ e. absurd (omega arith); no_other = inr (inr (inl refl));
+    done = λ e. absurd (omega arith);
+    stopped = λ e. absurd (omega arith);
+    too_long = λ e. (name.now, h.0, h.1, h.2);
+    no_memory = λ e. absurd (omega arith);
+    not_read = λ e. absurd (omega arith);
+    not_put = λ e. absurd (omega arith);
+    bad_words = λ e. absurd (omega arith);
+    bad_form = λ e. absurd (omega arith);
+    no_other = inr (inr (inl refl));
   }
   says (Refused (NotRead name)) h = record {
-    done = λ e. absurd (omega arith); stopped = λ e. absurd (omega arith); too_long = λ e. absurd (omega arith); no_memory = λ e. absurd (omega arith); not_read = λ e. (name.now, h.0, h.1, h.2);
-    not_put = λ e. absurd (omega arith); bad_words = λ e. absurd (omega arith); bad_form = λ e. absurd (omega arith); no_other = inr (inr (inr (inr (inl refl))));
+    done = λ e. absurd (omega arith);
+    stopped = λ e. absurd (omega arith);
+    too_long = λ e. absurd (omega arith);
+    no_memory = λ e. absurd (omega arith);
+    not_read = λ e. (name.now, h.0, h.1, h.2);
+    not_put = λ e. absurd (omega arith);
+    bad_words = λ e. absurd (omega arith);
+    bad_form = λ e. absurd (omega arith);
+    no_other = inr (inr (inr (inr (inl refl))));
   }
   says (Refused BadForm) h = record {
-    done = λ e. absurd (omega arith); stopped = λ e. absurd (omega arith); too_long = λ e. absurd (omega arith); no_memory = λ e. absurd (omega arith); not_read = λ e. absurd (omega arith);
-    not_put = λ e. absurd (omega arith); bad_words = λ e. absurd (omega arith); bad_form = λ e. (h.0, h.1, h.2); no_other = inr (inr (inr (inr (inr (inr (inr (inl refl)))))));
+    done = λ e. absurd (omega arith);
+    stopped = λ e. absurd (omega arith);
+    too_long = λ e. absurd (omega arith);
+    no_memory = λ e. absurd (omega arith);
+    not_read = λ e. absurd (omega arith);
+    not_put = λ e. absurd (omega arith);
+    bad_words = λ e. absurd (omega arith);
+    bad_form = λ e. (h.0, h.1, h.2);
+    no_other = inr (inr (inr (inr (inr (inr (inr (inl refl)))))));
   }
   says (Refused Memory) h = record {
-    done = λ e. absurd (omega arith); stopped = λ e. absurd (omega arith); too_long = λ e. absurd (omega arith); no_memory = λ e. h.2; not_read = λ e. absurd (omega arith);
-    not_put = λ e. absurd (omega arith); bad_words = λ e. absurd (omega arith); bad_form = λ e. absurd (omega arith); no_other = inr (inr (inr (inl refl)));
+    done = λ e. absurd (omega arith);
+    stopped = λ e. absurd (omega arith);
+    too_long = λ e. absurd (omega arith);
+    no_memory = λ e. h.2;
+    not_read = λ e. absurd (omega arith);
+    not_put = λ e. absurd (omega arith);
+    bad_words = λ e. absurd (omega arith);
+    bad_form = λ e. absurd (omega arith);
+    no_other = inr (inr (inr (inl refl)));
   }
   says NoMemory h = record {
-    done = λ e. absurd (omega arith); stopped = λ e. absurd (omega arith); too_long = λ e. absurd (omega arith); no_memory = λ e. h; not_read = λ e. absurd (omega arith);
-    not_put = λ e. absurd (omega arith); bad_words = λ e. absurd (omega arith); bad_form = λ e. absurd (omega arith); no_other = inr (inr (inr (inl refl)));
+    done = λ e. absurd (omega arith);
+    stopped = λ e. absurd (omega arith);
+    too_long = λ e. absurd (omega arith);
+    no_memory = λ e. h;
+    not_read = λ e. absurd (omega arith);
+    not_put = λ e. absurd (omega arith);
+    bad_words = λ e. absurd (omega arith);
+    bad_form = λ e. absurd (omega arith);
+    no_other = inr (inr (inr (inl refl)));
   }
   says NotPut h = record {
-    done = λ e. absurd (omega arith); stopped = λ e. absurd (omega arith); too_long = λ e. absurd (omega arith); no_memory = λ e. absurd (omega arith); not_read = λ e. absurd (omega arith);
-    not_put = λ e. h; bad_words = λ e. absurd (omega arith); bad_form = λ e. absurd (omega arith); no_other = inr (inr (inr (inr (inr (inl refl)))));
+    done = λ e. absurd (omega arith);
+    stopped = λ e. absurd (omega arith);
+    too_long = λ e. absurd (omega arith);
+    no_memory = λ e. absurd (omega arith);
+    not_read = λ e. absurd (omega arith);
+    not_put = λ e. h;
+    bad_words = λ e. absurd (omega arith);
+    bad_form = λ e. absurd (omega arith);
+    no_other = inr (inr (inr (inr (inr (inl refl)))));
   }
 
 -- WHAT THE FILES TELL
@@ -90,6 +153,7 @@ too_long_is s told name is short long = by long.asks
   where
     names : (long.names.class ≡ told.names.class) × (long.names.script ≡ told.names.script)
     names = one_names s.words long.names told.names long.words_are is.words_are
+
     by : AskedUpTo long.names s.asked s.asked' name → ⊥
     by (inl class) = not_short s.contents name told.class_text (ap s.contents (class.0 ∙ names.0) ∙ is.class_told) short.0 long.too_long
     by (inr script) = not_short s.contents name told.script_text (ap s.contents (script.0 ∙ names.1) ∙ is.script_told) short.1 long.too_long

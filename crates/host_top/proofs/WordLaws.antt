@@ -42,6 +42,7 @@ names_in-is (run ∷ class ∷ script ∷ []) n h = by (bytes_eq run (codes "run
           class_plain = third.1;
           script_plain = last.1;
         }
+
     by : (b : Bool) → bytes_eq run (codes "run") && true && names_test class script ≡ b → cond {A = Option (List ℕ × List ℕ)} b (Some (class, script)) None ≡ Some n → AreRunWords (run ∷ class ∷ script ∷ []) (record { class = n.0; script = n.1 })
     by true e h = let same : (class, script) ≡ n = cc in subst (λ (m : List ℕ × List ℕ). AreRunWords (run ∷ class ∷ script ∷ []) (record { class = m.0; script = m.1 })) same (facts e)
     by false e h = cc

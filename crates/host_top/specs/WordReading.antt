@@ -18,4 +18,4 @@ names_test class script = is_class_file class && not (is_class_file script) && n
 unfoldable pub names_in : List (List ℕ) → Option (List ℕ × List ℕ)
 names_in words =
     option_and_then (λ r. option_and_then (λ c. option_and_then (λ s.
-      cond (bytes_eq r.0 (codes "run") && is_end s.1 && names_test c.0 s.0) (Some (c.0, s.0)) None) (first_word c.1)) (first_word r.1)) (first_word words)
+    cond (bytes_eq r.0 (codes "run") && is_end s.1 && names_test c.0 s.0) (Some (c.0, s.0)) None) (first_word c.1)) (first_word r.1)) (first_word words)

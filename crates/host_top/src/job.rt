@@ -68,11 +68,7 @@ pub(crate) struct Report {
 }
 
 /// Runs the process, which prints to the device.
-pub(crate) fn run<D: Device>(
-    alloc: Global,
-    job: &Job,
-    device: &mut D,
-) -> Result<Report, NoMemory>
+pub(crate) fn run<D: Device>(alloc: Global, job: &Job, device: &mut D) -> Result<Report, NoMemory>
     requires few { length job.now.acts ≤ MAX_LINES }
     requires known { AreKnown (length job.now.class.props) [] job.now.acts }
     ensures { IfOk result (λ report. HasRun job.now.class job.now.acts (D.bytes device.old) (D.bytes device.new) (D.faults device.old) (D.faults device.new) report.text report.ending) }

@@ -19,7 +19,8 @@ pub enum Refusal<'a> {
     Memory,
 }
 
-const USAGE: &str = "usage: objstep run [--load FILE] [--schedule FILE] [--fuel N] [--tries N] [--volume N] [--order] FILE...\n";
+const USAGE: &str =
+    "usage: objstep run [--load FILE] [--schedule FILE] [--fuel N] [--tries N] [--volume N] [--order] FILE...\n";
 
 fn about_file(alloc: Global, name: &str, what: &str) -> Result<Text, NoMemory>
     ensures { IfOk result (λ text. text ≡ name.now ++ what.now) }

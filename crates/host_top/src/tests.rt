@@ -7,9 +7,11 @@ use std::alloc::Global;
 use std::process::Abort;
 use std::test::Fail;
 
-const CLASS: &str = "Class Shop.Item Extends %Persistent\n{\nProperty Name As %String;\nProperty Kind As %String;\n}\n";
-const SCRIPT: &str =
-    "Set a=##class(Shop.Item).%New()\nSet a.Name=\"Pen\"\nWrite a.%Save(),!\n";
+const CLASS: &str =
+    "Class Shop.Item Extends %Persistent\n{\nProperty Name As %String;\nProperty Kind As %String;\n}\n";
+
+const SCRIPT: &str = "Set a=##class(Shop.Item).%New()\nSet a.Name=\"Pen\"\nWrite a.%Save(),!\n";
+
 const ROOM: usize = 4_000_000;
 
 /// Which calls of the outside are to fail, each counted from 1.
@@ -196,14 +198,24 @@ fn a_class_has_200_properties_at_most(rt: HostRuntime) -> Result<(), Fail> {
 
 #[test]
 fn faults_of_the_outside_have_their_statuses(rt: HostRuntime) -> Result<(), Fail> {
-    let script = "Set a=##class(Shop.Item).%New()\nWrite a.%Save(),!\nSet a.Name=\"B\"\nWrite a.%Save(),!\n";
+    let script =
+        "Set a=##class(Shop.Item).%New()\nWrite a.%Save(),!\nSet a.Name=\"B\"\nWrite a.%Save(),!\n";
     let first = run(rt.alloc(), CLASS, script, Faults { read: 1, ..NONE }).expect(&rt, "memory");
     expect(&rt, &first, 4, "", "item.cls: not read\n", "the first read");
     assert_eq!(rt; first.files.faults(), 1);
     assert_eq!(rt; first.files.asked().len(), 1);
     let second = run(rt.alloc(), CLASS, script, Faults { read: 2, ..NONE }).expect(&rt, "memory");
-    expect(&rt, &second, 4, "", "first.os: not read\n", "the second read");
-    let stopped = run(rt.alloc(), CLASS, script, Faults { device: 1, ..NONE }).expect(&rt, "memory");
+    expect(
+        &rt,
+        &second,
+        4,
+        "",
+        "first.os: not read\n",
+        "the second read",
+    );
+    let stopped = run(rt.alloc(), CLASS, script, Faults { device: 1, ..NONE }).expect(
+        &rt, "memory",
+    );
     expect(
         &rt,
         &stopped,
@@ -221,7 +233,14 @@ fn faults_of_the_outside_have_their_statuses(rt: HostRuntime) -> Result<(), Fail
         "1 DeviceFault\n^Shop.ItemD=1\n^Shop.ItemD(1)=$lb(\"\",\"B\",\"\")\n",
         "the second print",
     );
-    assert_eq!(rt; later.outcome.devices.first().map_or(0, |device| device.faults()), 1);
+    assert_eq!(rt;
+        later
+            .outcome
+            .devices
+            .first()
+            .map_or(0, |device| device.faults()),
+        1
+    );
     let unheard = run(rt.alloc(), CLASS, script, Faults { sink: 1, ..NONE }).expect(&rt, "memory");
     expect(&rt, &unheard, 5, "1\n1\n", "", "the report");
     assert_eq!(rt; unheard.sink.faults(), 1);
@@ -247,7 +266,8 @@ fn a_file_may_be_too_long(rt: HostRuntime) -> Result<(), Fail> {
 
 #[test]
 fn other_words_are_refused(rt: HostRuntime) -> Result<(), Fail> {
-    const USAGE: &str = "usage: objstep run [--load FILE] [--schedule FILE] [--fuel N] [--tries N] [--volume N] [--order] FILE...\n";
+    const USAGE: &str =
+        "usage: objstep run [--load FILE] [--schedule FILE] [--fuel N] [--tries N] [--volume N] [--order] FILE...\n";
     let cases: [&[&str]; 9] = [
         &[],
         &["run"],
@@ -260,8 +280,9 @@ fn other_words_are_refused(rt: HostRuntime) -> Result<(), Fail> {
         &["run", "item.cls", "first.os", "first.os"],
     ];
     for case in &cases {
-        let seen =
-            run_words(rt.alloc(), case, CLASS, SCRIPT.as_bytes(), NONE).expect(&rt, "memory");
+        let seen = run_words(rt.alloc(), case, CLASS, SCRIPT.as_bytes(), NONE).expect(
+            &rt, "memory",
+        );
         expect(&rt, &seen, 7, "", USAGE, "words");
         assert_eq!(rt; seen.files.asked().len(), 0);
     }

@@ -46,8 +46,18 @@ fn canonical_whole_numbers_are_numbers(rt: HostRuntime) -> Result<(), Fail> {
 fn subscripts_have_1_to_255_bytes(rt: HostRuntime) -> Result<(), Fail> {
     let long = vec![in rt.alloc(); b'9'; 256]?;
     assert!(rt; matches!(Sub::from_text(rt.alloc(), b""), Err(SubError::Empty)));
-    assert!(rt; matches!(Sub::from_text(rt.alloc(), &long.as_slice()[..255]), Ok(Sub::Str(_))));
-    assert!(rt; matches!(Sub::from_text(rt.alloc(), long.as_slice()), Err(SubError::TooLong)));
+    assert!(rt;
+        matches!(
+            Sub::from_text(rt.alloc(), &long.as_slice()[..255]),
+            Ok(Sub::Str(_))
+        )
+    );
+    assert!(rt;
+        matches!(
+            Sub::from_text(rt.alloc(), long.as_slice()),
+            Err(SubError::TooLong)
+        )
+    );
     Ok(())
 }
 
@@ -111,7 +121,11 @@ fn nodes_stand_in_order_and_print(rt: HostRuntime) -> Result<(), Fail> {
         assert!(rt; matches!(left.compare(&copy), std::cmp::Ordering::Equal));
         for (other, (global, subs, _)) in cases.iter().enumerate() {
             let right = node(rt.alloc(), global, subs).expect(&rt, "memory");
-            assert_eq!(rt; left.compare(&right), at.cmp(&other), "{text} and place {other}");
+            assert_eq!(rt;
+                left.compare(&right),
+                at.cmp(&other),
+                "{text} and place {other}"
+            );
         }
     }
     Ok(())
@@ -148,7 +162,12 @@ fn copies_are_alike(rt: HostRuntime) -> Result<(), Fail> {
     assert_eq!(rt; copied.len(), 1);
     let mut nodes: Nodes = Nodes::new(rt.alloc());
     nodes.push((node(rt.alloc(), "A", &[]).expect(&rt, "memory"), copy))?;
-    assert_eq!(rt; copy_nodes(rt.alloc(), nodes.as_slice()).expect(&rt, "memory").len(), 1);
+    assert_eq!(rt;
+        copy_nodes(rt.alloc(), nodes.as_slice())
+            .expect(&rt, "memory")
+            .len(),
+        1
+    );
     let name = ClassName(Text::from_slice(rt.alloc(), b"A.B").expect(&rt, "memory"));
     assert_eq!(rt; name.copy(rt.alloc()).expect(&rt, "memory"), name);
     let mut text = Text::new(rt.alloc());

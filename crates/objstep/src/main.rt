@@ -43,13 +43,7 @@ fn run(rt: &HostRuntime) -> Result<u8, NoMemory> {
     let devices = devices(rt, count)?;
     let mut files = HostFiles::new(rt.clone()?);
     let mut sink = StdSink::new(rt.clone()?);
-    let outcome = step_main(
-        rt.alloc(),
-        words.as_slice(),
-        &mut files,
-        devices,
-        &mut sink,
-    );
+    let outcome = step_main(rt.alloc(), words.as_slice(), &mut files, devices, &mut sink);
     Ok(outcome.status)
 }
 

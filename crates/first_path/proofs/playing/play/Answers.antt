@@ -19,7 +19,7 @@ returns-in-Failed g c =
     let failed = c.in-Failed.ensures.failed refl in
     let cut = amid_cut c.args.properties _ _ act c.loop-act.session c.step.new.self _ _ _ _ amid _ _ failed.0 c.in_ok-step.ensures failed.1 failed.2 (c.in-Failed.ensures.rises refl) in
     let played : IsCut c.args.properties acts (g.D.Device.bytes c.args.device.now) (g.D.Device.bytes c.print.new.device) (g.D.Device.faults c.args.device.now) (g.D.Device.faults c.print.new.device) c.into_saved.result =
-      rw (whole_at acts k act c.loop-act-test.true c.act-item.is, c.into_saved.ensures) cut in
+    rw (whole_at acts k act c.loop-act-test.true c.act-item.is, c.into_saved.ensures) cut in
     record { few = cut_few _ _ _ _ _ _ _ played; played = played }
 
 pub loop-act-preserved : goal.loop-act-preserved
