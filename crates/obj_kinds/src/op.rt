@@ -77,11 +77,7 @@ pub enum Reply {
     Number(i64),
     Granted,
     /// Another process holds a lock that is in conflict.
-    Held {
-        pid: Pid,
-        node: Node,
-        mode: Mode,
-    },
+    Held { pid: Pid, node: Node, mode: Mode },
     NotHeld,
     NoTran,
     TooDeep,
