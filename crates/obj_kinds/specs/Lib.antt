@@ -4,3 +4,8 @@ pub mod Subscript
 pub mod LeadingNumber
 pub mod Quoted
 pub mod NodeText
+pub mod Ids
+pub mod IdLaws
+pub mod IdReading
+pub mod ErrorNames
+pub mod Causes

@@ -2,6 +2,9 @@
 //! stored values, ids, the operations of the store with their replies, and the causes of failures.
 #![tactic(auto)]
 
+mod cause;
+mod error_name;
+mod id;
 mod memory;
 mod name;
 mod node;
@@ -14,6 +17,9 @@ mod text;
 mod value;
 mod whole;
 
+pub use cause::{Cause, Why, cause_text};
+pub use error_name::ErrorName;
+pub use id::Id;
 pub use memory::{Lack, NoMemory};
 pub use name::ClassName;
 pub use node::{Node, begins_with, compare_subs, copy_subs};

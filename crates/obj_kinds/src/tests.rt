@@ -176,3 +176,106 @@ fn copies_are_alike(rt: HostRuntime) -> Result<(), Fail> {
     assert_eq!(rt; Text::from_vec(vec![in rt.alloc(); b'x'; 3]?).len(), 3);
     Ok(())
 }
+
+#[test]
+fn ids_are_read_from_their_texts(rt: HostRuntime) -> Result<(), Fail> {
+    let cases = [
+        ("1", true),
+        ("999999999999999999", true),
+        ("12||3", true),
+        ("1||2||3", true),
+        ("", false),
+        ("0", false),
+        ("01", false),
+        ("+1", false),
+        ("-1", false),
+        (" 1", false),
+        ("1|2", false),
+        ("1||", false),
+        ("||1", false),
+        ("1|||2", false),
+        ("1||02", false),
+        ("1||0", false),
+        ("1||2||3||4", false),
+        ("1000000000000000000", false),
+        ("1||2||1000000000000000000", false),
+    ];
+    for (text, is) in &cases {
+        let id = Id::from_text(text.as_bytes());
+        assert_eq!(rt; id.is_some(), *is, "{text}");
+        if let Some(id) = id {
+            let again = id.text(rt.alloc()).expect(&rt, "memory");
+            assert_eq!(rt; again.as_slice(), text.as_bytes(), "{text}");
+        }
+    }
+    Ok(())
+}
+
+fn text(alloc: Global, bytes: &str) -> Result<Text, NoMemory> {
+    Text::from_slice(alloc, bytes.as_bytes())
+}
+
+fn cause(alloc: Global, number: usize, id: Id) -> Result<Cause, SubError> {
+    let class = ClassName(text(alloc, "Bank.Account")?);
+    let row = node(alloc, "Bank.AccountD", &["1"])?;
+    Ok(match number {
+        0 => Cause::Invalid {
+            class,
+            prop: text(alloc, "Number")?,
+            why: Why::NotWhole,
+        },
+        1 => Cause::Invalid {
+            class,
+            prop: Text::new(alloc),
+            why: Why::RowTooLong,
+        },
+        2 => Cause::Busy {
+            pid: Pid(2),
+            node: row,
+        },
+        3 => Cause::Gone(id),
+        4 => Cause::NotUnique {
+            index: text(alloc, "NumIdx")?,
+            other: id,
+        },
+        5 => Cause::NoTarget { class, id },
+        6 => Cause::HasMembers(id),
+        7 => Cause::NotMember(id),
+        8 => Cause::NotFound,
+        9 => Cause::OtherClass(class),
+        10 => Cause::IdLimit,
+        11 => Cause::IdTaken(id),
+        12 => Cause::Damaged(row),
+        _ => Cause::TooDeep,
+    })
+}
+
+#[test]
+fn causes_have_their_texts(rt: HostRuntime) -> Result<(), Fail> {
+    let texts = [
+        "Invalid Bank.Account Number NotWhole",
+        "Invalid Bank.Account % RowTooLong",
+        "Busy 2 ^Bank.AccountD(1)",
+        "Gone 1||7",
+        "NotUnique NumIdx 1||7",
+        "NoTarget Bank.Account 1||7",
+        "HasMembers 1||7",
+        "NotMember 1||7",
+        "NotFound",
+        "OtherClass Bank.Account",
+        "IdLimit",
+        "IdTaken 1||7",
+        "Damaged ^Bank.AccountD(1)",
+        "TooDeep",
+    ];
+    let Some(id) = Id::from_text(b"1||7") else {
+        return Err("no id".into());
+    };
+    for (number, expected) in texts.iter().enumerate() {
+        let cause = cause(rt.alloc(), number, id).expect(&rt, "memory");
+        let printed = cause_text(rt.alloc(), &cause).expect(&rt, "memory");
+        assert_eq!(rt; printed.as_slice(), expected.as_bytes(), "{expected}");
+    }
+    assert_eq!(rt; ErrorName::InvalidOref.text(), b"<INVALID OREF>".as_slice());
+    Ok(())
+}
