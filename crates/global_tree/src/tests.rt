@@ -23,11 +23,13 @@ fn text(alloc: Global, bytes: &[u8]) -> Result<Value, Fail> {
 }
 
 /// Gives a node a value, and gives the pin back.
-fn plant(tree: &mut Tree, alloc: Global, at: Node, value: Value) -> Result<(), Fail>
+fn plant(tree: &mut Tree, alloc: Global, global: &[u8], subs: &[&[u8]]) -> Result<(), Fail>
     requires { (n : Node) → pins_of tree.old.pins n ≡ 0 }
     ensures { OnOk result ((n : Node) → pins_of tree.new.pins n ≡ 0) }
 {
+    let at = node(alloc, global, subs)?;
     let place = at.copy(alloc)?;
+    let value = text(alloc, b"v")?;
     tree.set(at, value)?;
     tree.unpin(&place);
     Ok(())
@@ -38,35 +40,25 @@ fn small_tree(alloc: Global) -> Result<Tree, Fail>
     ensures { IfOk result (λ t. (n : Node) → pins_of t.pins n ≡ 0) }
 {
     let mut tree = Tree::new(alloc);
+    plant(&mut tree, alloc, b"b", [].as_slice())?;
+    plant(&mut tree, alloc, b"a", [b"b".as_slice()].as_slice())?;
     plant(
         &mut tree,
         alloc,
-        node(alloc, b"b", [].as_slice())?,
-        text(alloc, b"4")?,
+        b"a",
+        [b"2".as_slice(), b"x".as_slice()].as_slice(),
     )?;
-    plant(
-        &mut tree,
-        alloc,
-        node(alloc, b"a", [b"b".as_slice()].as_slice())?,
-        text(alloc, b"3")?,
-    )?;
-    plant(
-        &mut tree,
-        alloc,
-        node(alloc, b"a", [b"2".as_slice(), b"x".as_slice()].as_slice())?,
-        text(alloc, b"2")?,
-    )?;
-    plant(
-        &mut tree,
-        alloc,
-        node(alloc, b"a", [b"1".as_slice()].as_slice())?,
-        text(alloc, b"1")?,
-    )?;
+    plant(&mut tree, alloc, b"a", [b"1".as_slice()].as_slice())?;
     Ok(tree)
 }
 
-/// Whether the answer of `next` is the subscript that the text writes; none for an empty text.
-fn is_next(alloc: Global, answer: Option<&Sub>, want: &[u8]) -> Result<bool, Fail> {
+fn state(tree: &Tree, alloc: Global, global: &[u8], subs: &[&[u8]]) -> Result<u8, Fail> {
+    let at = node(alloc, global, subs)?;
+    Ok(tree.defined(&at))
+}
+
+/// Whether the answer is the subscript that the text writes; none for an empty text.
+fn is_sub(alloc: Global, answer: Option<&Sub>, want: &[u8]) -> Result<bool, Fail> {
     match answer {
         None => Ok(want.is_empty()),
         Some(sub) => {
@@ -79,72 +71,102 @@ fn is_next(alloc: Global, answer: Option<&Sub>, want: &[u8]) -> Result<bool, Fai
     }
 }
 
+/// Whether the first subscript below the node is the one that the text writes.
+fn first_is(
+    tree: &Tree,
+    alloc: Global,
+    global: &[u8],
+    subs: &[&[u8]],
+    want: &[u8],
+) -> Result<bool, Fail> {
+    let at = node(alloc, global, subs)?;
+    is_sub(alloc, tree.next(&at, None), want)
+}
+
+/// Whether the subscript below `^a` after the one given is the one that the text writes.
+fn next_is(tree: &Tree, alloc: Global, after: &[u8], want: &[u8]) -> Result<bool, Fail> {
+    let at = node(alloc, b"a", [].as_slice())?;
+    let after = Sub::from_text(alloc, after)?;
+    is_sub(alloc, tree.next(&at, Some(&after)), want)
+}
+
 #[test]
 fn states(rt: HostRuntime) -> Result<(), Fail> {
     let alloc = rt.alloc();
     let tree = small_tree(alloc)?;
-    assert_eq!(rt; tree.defined(&node(alloc, b"a", [].as_slice())?), 10);
+    assert_eq!(rt; state(&tree, alloc, b"a", [].as_slice())?, 10);
+    assert_eq!(rt; state(&tree, alloc, b"a", [b"1".as_slice()].as_slice())?, 1);
     assert_eq!(rt;
-        tree.defined(&node(alloc, b"a", [b"1".as_slice()].as_slice())?),
-        1
-    );
-    assert_eq!(rt;
-        tree.defined(&node(alloc, b"a", [b"2".as_slice()].as_slice())?),
+        state(&tree, alloc, b"a", [b"2".as_slice()].as_slice())?,
         10
     );
-    assert_eq!(rt; tree.defined(&node(alloc, b"b", [].as_slice())?), 1);
-    assert_eq!(rt; tree.defined(&node(alloc, b"c", [].as_slice())?), 0);
-    let mut tree = tree;
-    plant(
-        &mut tree,
-        alloc,
-        node(alloc, b"a", [].as_slice())?,
-        text(alloc, b"5")?,
-    )?;
-    assert_eq!(rt; tree.defined(&node(alloc, b"a", [].as_slice())?), 11);
+    assert_eq!(rt; state(&tree, alloc, b"b", [].as_slice())?, 1);
+    assert_eq!(rt; state(&tree, alloc, b"c", [].as_slice())?, 0);
     Ok(())
 }
+
+#[test]
+fn value_and_descendants(rt: HostRuntime) -> Result<(), Fail> {
+    let alloc = rt.alloc();
+    let mut tree = small_tree(alloc)?;
+    plant(&mut tree, alloc, b"a", [].as_slice())?;
+    assert_eq!(rt; state(&tree, alloc, b"a", [].as_slice())?, 11);
+    Ok(())
+}
+
+/// Subscripts below `^a`, each with the next one: numbers stand before texts, and the subscript 2
+/// has no value of its own.
+const STEPS: [(&[u8], &[u8]); 8] = [
+    (b"-5", b"1"),
+    (b"0", b"1"),
+    (b"1", b"2"),
+    (b"2", b"b"),
+    (b"7", b"b"),
+    (b"a", b"b"),
+    (b"b", b""),
+    (b"c", b""),
+];
 
 #[test]
 fn next_subscripts(rt: HostRuntime) -> Result<(), Fail> {
     let alloc = rt.alloc();
     let tree = small_tree(alloc)?;
-    let a = node(alloc, b"a", [].as_slice())?;
-    // numbers stand before texts; the subscript 2 has no value of its own
-    let steps = [
-        (b"-5".as_slice(), b"1".as_slice()),
-        (b"0", b"1"),
-        (b"1", b"2"),
-        (b"2", b"b"),
-        (b"7", b"b"),
-        (b"a", b"b"),
-        (b"b", b""),
-        (b"c", b""),
-    ];
-    for (after, want) in steps {
-        let after = Sub::from_text(alloc, after)?;
-        assert!(rt; is_next(alloc, tree.next(&a, Some(&after)), want)?);
+    for (after, want) in STEPS {
+        assert!(rt; next_is(&tree, alloc, after, want)?);
     }
-    assert!(rt; is_next(alloc, tree.next(&a, None), b"1")?);
-    let inner = node(alloc, b"a", [b"2".as_slice()].as_slice())?;
-    assert!(rt; is_next(alloc, tree.next(&inner, None), b"x")?);
-    let last = node(alloc, b"b", [].as_slice())?;
-    assert!(rt; is_next(alloc, tree.next(&last, None), b"")?);
     Ok(())
+}
+
+#[test]
+fn first_subscripts(rt: HostRuntime) -> Result<(), Fail> {
+    let alloc = rt.alloc();
+    let tree = small_tree(alloc)?;
+    assert!(rt; first_is(&tree, alloc, b"a", [].as_slice(), b"1")?);
+    assert!(rt; first_is(&tree, alloc, b"a", [b"2".as_slice()].as_slice(), b"x")?);
+    assert!(rt; first_is(&tree, alloc, b"b", [].as_slice(), b"")?);
+    Ok(())
+}
+
+/// How many nodes are taken with the node.
+fn take(tree: &mut Tree, alloc: Global, global: &[u8], subs: &[&[u8]]) -> Result<usize, Fail>
+    requires { (n : Node) → pins_of tree.old.pins n ≡ 0 }
+{
+    let at = node(alloc, global, subs)?;
+    let taken = tree.take_under(alloc, &at)?;
+    Ok(taken.len())
 }
 
 #[test]
 fn subtrees(rt: HostRuntime) -> Result<(), Fail> {
     let alloc = rt.alloc();
     let mut tree = small_tree(alloc)?;
-    let inner = node(alloc, b"a", [b"2".as_slice()].as_slice())?;
-    let taken = tree.take_under(alloc, &inner)?;
-    assert_eq!(rt; taken.len(), 1);
-    // the place that is still pinned has no value
-    let a = node(alloc, b"a", [].as_slice())?;
-    let one = Sub::from_text(alloc, b"1")?;
-    assert!(rt; is_next(alloc, tree.next(&a, Some(&one)), b"b")?);
-    assert_eq!(rt; tree.defined(&inner), 0);
+    assert_eq!(rt;
+        take(&mut tree, alloc, b"a", [b"2".as_slice()].as_slice())?,
+        1
+    );
+    // the place is still pinned, and has no value
+    assert_eq!(rt; state(&tree, alloc, b"a", [b"2".as_slice()].as_slice())?, 0);
+    assert!(rt; next_is(&tree, alloc, b"1", b"b")?);
     assert_eq!(rt; tree.nodes(alloc)?.len(), 3);
     Ok(())
 }
