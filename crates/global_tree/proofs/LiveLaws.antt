@@ -1,11 +1,11 @@
 -- Each place of a tree has a value or a pin, whatever is edited.
-use Rattle.std.proofs.Common.{◌≡◌, ℕ, zero, suc, ◌+◌, ◌<◌, ◌≤◌, Bool, true, false, cond, List, [], ◌∷◌, length, get_or, set, Option, Some, None, is_some, is_none, refl, sym, ap, subst, arith}
+use Rattle.std.proofs.Common.{◌≡◌, ℕ, zero, suc, ◌+◌, ◌<◌, cond, [], ◌∷◌, length, get_or, set, Option, Some, None, is_some, refl, arith}
 use Rattle.std.specs.List.{insert, remove}
 use Rattle.obj_kinds.specs.declared.node.Node.{Node}
 use Rattle.obj_kinds.specs.declared.value.Value.{Value}
 use Rattle.global_tree.specs.declared.place.Place.{Place}
 use Rattle.global_tree.specs.Places.{IsLive, AllLive, emptied}
-use Rattle.global_tree.specs.Run.{empty_one, emptied_in}
+use Rattle.global_tree.specs.Run.{emptied_in}
 use Rattle.global_tree.proofs.Seen.{Places}
 
 pub live_set : (es : Places) (i : ℕ) (e : Node × Place) → AllLive es → IsLive e.1 → AllLive (set es i e)
