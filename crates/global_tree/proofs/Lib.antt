@@ -7,3 +7,4 @@ pub mod Parted
 pub mod NextLaws
 pub mod RunLaws
 pub mod PinLaws
+pub mod LiveLaws

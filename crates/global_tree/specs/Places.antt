@@ -1,7 +1,8 @@
 -- What the places of a tree, in node order, hold.
-use Rattle.std.specs.Prelude.{ℕ, ◌+◌, cond, is_some, List, [], ◌∷◌, Option, None, Some}
-use Rattle.std.specs.FinMap.{from_sorted}
+use Rattle.std.specs.Prelude.{◌≤◌, IsTrue, ℕ, ◌+◌, cond, is_some, List, [], ◌∷◌, Option, None, Some}
+use Rattle.std.specs.FinMap.{from_sorted, is_sorted}
 use Rattle.obj_kinds.specs.declared.node.Node.{Node}
+use Rattle.obj_kinds.specs.Order.{node_cmp}
 use Rattle.obj_kinds.specs.declared.value.Value.{Value}
 use Rattle.global_tree.specs.declared.place.Place.{Place}
 use Rattle.global_tree.specs.Contents.{Contents, counted}
@@ -27,3 +28,16 @@ contents places = record { globals = from_sorted (part value_in places); pins = 
 -- without its value, and pinned once more if it had one
 unfoldable pub emptied : Place → Place
 emptied p = cond (is_some p.value) (record { value = None; pins = p.pins + 1 }) p
+
+-- it has a value or a pin
+abbrev pub IsLive : Place → Type 0
+IsLive p = 1 ≤ p.pins + cond (is_some p.value) 1 0
+
+abbrev pub AllLive : List (Node × Place) → Type 0
+AllLive [] = Unit {0}
+AllLive (e ∷ es) = IsLive e.1 × AllLive es
+
+-- what is true of the places of a tree: rising nodes, and no place without a value and pins
+pub record IsTree (es : List (Node × Place)) : Type 0 where
+  pub rising : IsTrue (is_sorted node_cmp es)
+  pub live : AllLive es

@@ -1,7 +1,7 @@
-ghost use Rattle.std.specs.Prelude.{◌≡◌, ◌+◌, ◌<◌, ◌^◌, IsTrue, OnSome, vec_len};
+ghost use Rattle.std.specs.Prelude.{◌≡◌, ◌+◌, ◌<◌, ◌^◌, IsTrue, OnSome, remove, vec_len};
 ghost use Rattle.std.specs.FinMap.{is_sorted};
 ghost use Rattle.obj_kinds.specs.Order.{node_cmp};
-ghost use Rattle.global_tree.specs.Places.{contents, emptied};
+ghost use Rattle.global_tree.specs.Places.{contents, emptied, AllLive, IsTree};
 
 use obj_kinds::{Node, Value};
 
@@ -37,7 +37,8 @@ impl Place {
 pub fn remove_empty(places: &mut Vec<(Node, Place)>, at: usize)
     requires within { at < vec_len places.old }
     requires rising { IsTrue (is_sorted node_cmp places.old.items) }
-    ensures rising { IsTrue (is_sorted node_cmp places.new.items) }
+    requires others { AllLive (remove places.old.items at) }
+    ensures tree { IsTree places.new.items }
     ensures same { contents places.new.items ≡ contents places.old.items }
 {
     let place = &places[at].1;

@@ -9,64 +9,84 @@ use std::alloc::Global;
 use std::cmp::Ordering;
 use std::test::Fail;
 
-fn node(alloc: Global, global: &[u8], subs: &[&[u8]]) -> Result<Node, Fail> {
-    let mut list = Items::new(alloc);
-    for sub in subs {
-        list.push(Sub::from_text(alloc, sub)?)?;
+/// A global and up to two subscripts; an empty text is none.
+type Way = (&'static [u8], &'static [u8], &'static [u8]);
+
+fn node(alloc: Global, way: Way) -> Result<Node, Fail> {
+    let mut subs = Items::new(alloc);
+    for sub in [way.1, way.2] {
+        if !sub.is_empty() {
+            subs.push(Sub::from_text(alloc, sub)?)?;
+        }
     }
-    let global = Text::from_slice(alloc, global)?;
-    Ok(Node { global, subs: list })
+    let global = Text::from_slice(alloc, way.0)?;
+    Ok(Node { global, subs })
 }
 
-fn text(alloc: Global, bytes: &[u8]) -> Result<Value, Fail> {
-    Ok(Value::Str(Text::from_slice(alloc, bytes)?))
+fn value(alloc: Global) -> Result<Value, Fail> {
+    Ok(Value::Str(Text::from_slice(alloc, b"v")?))
 }
 
 /// Gives a node a value, and gives the pin back.
-fn plant(tree: &mut Tree, alloc: Global, at: Node, value: Value) -> Result<(), Fail>
+fn plant(tree: &mut Tree, alloc: Global, way: Way) -> Result<(), Fail>
     requires { (n : Node) → pins_of tree.old.pins n ≡ 0 }
     ensures { OnOk result ((n : Node) → pins_of tree.new.pins n ≡ 0) }
 {
+    let at = node(alloc, way)?;
     let place = at.copy(alloc)?;
+    let value = value(alloc)?;
     tree.set(at, value)?;
     tree.unpin(&place);
     Ok(())
 }
 
-/// `^a(1)`, `^a(2,"x")`, `^a("b")` and `^b`, each with a value, no pin left.
+const PLANTED: [Way; 4] = [
+    (b"b", b"", b""),
+    (b"a", b"b", b""),
+    (b"a", b"2", b"x"),
+    (b"a", b"1", b""),
+];
+
+/// The tree with a value at each planted node, and no pin left.
 fn small_tree(alloc: Global) -> Result<Tree, Fail>
     ensures { IfOk result (λ t. (n : Node) → pins_of t.pins n ≡ 0) }
 {
     let mut tree = Tree::new(alloc);
-    plant(
-        &mut tree,
-        alloc,
-        node(alloc, b"b", [].as_slice())?,
-        text(alloc, b"4")?,
-    )?;
-    plant(
-        &mut tree,
-        alloc,
-        node(alloc, b"a", [b"b".as_slice()].as_slice())?,
-        text(alloc, b"3")?,
-    )?;
-    plant(
-        &mut tree,
-        alloc,
-        node(alloc, b"a", [b"2".as_slice(), b"x".as_slice()].as_slice())?,
-        text(alloc, b"2")?,
-    )?;
-    plant(
-        &mut tree,
-        alloc,
-        node(alloc, b"a", [b"1".as_slice()].as_slice())?,
-        text(alloc, b"1")?,
-    )?;
+    for way in PLANTED {
+        plant(&mut tree, alloc, way)?;
+    }
     Ok(tree)
 }
 
-/// Whether the answer of `next` is the subscript that the text writes; none for an empty text.
-fn is_next(alloc: Global, answer: Option<&Sub>, want: &[u8]) -> Result<bool, Fail> {
+fn state(tree: &Tree, alloc: Global, way: Way) -> Result<u8, Fail> {
+    let at = node(alloc, way)?;
+    Ok(tree.defined(&at))
+}
+
+const STATES: [(Way, u8); 6] = [
+    ((b"a", b"", b""), 10),
+    ((b"a", b"1", b""), 1),
+    ((b"a", b"2", b""), 10),
+    ((b"a", b"2", b"x"), 1),
+    ((b"b", b"", b""), 1),
+    ((b"c", b"", b""), 0),
+];
+
+#[test]
+fn states(rt: HostRuntime) -> Result<(), Fail> {
+    let alloc = rt.alloc();
+    let mut tree = small_tree(alloc)?;
+    for (way, want) in STATES {
+        assert_eq!(rt; state(&tree, alloc, way)?, want);
+    }
+    let a: Way = (b"a", b"", b"");
+    plant(&mut tree, alloc, a)?;
+    assert_eq!(rt; state(&tree, alloc, a)?, 11);
+    Ok(())
+}
+
+/// Whether the answer is the subscript that the text writes; none for an empty text.
+fn is_sub(alloc: Global, answer: Option<&Sub>, want: &[u8]) -> Result<bool, Fail> {
     match answer {
         None => Ok(want.is_empty()),
         Some(sub) => {
@@ -79,88 +99,80 @@ fn is_next(alloc: Global, answer: Option<&Sub>, want: &[u8]) -> Result<bool, Fai
     }
 }
 
-#[test]
-fn states(rt: HostRuntime) -> Result<(), Fail> {
-    let alloc = rt.alloc();
-    let tree = small_tree(alloc)?;
-    assert_eq!(rt; tree.defined(&node(alloc, b"a", [].as_slice())?), 10);
-    assert_eq!(rt;
-        tree.defined(&node(alloc, b"a", [b"1".as_slice()].as_slice())?),
-        1
-    );
-    assert_eq!(rt;
-        tree.defined(&node(alloc, b"a", [b"2".as_slice()].as_slice())?),
-        10
-    );
-    assert_eq!(rt; tree.defined(&node(alloc, b"b", [].as_slice())?), 1);
-    assert_eq!(rt; tree.defined(&node(alloc, b"c", [].as_slice())?), 0);
-    let mut tree = tree;
-    plant(
-        &mut tree,
-        alloc,
-        node(alloc, b"a", [].as_slice())?,
-        text(alloc, b"5")?,
-    )?;
-    assert_eq!(rt; tree.defined(&node(alloc, b"a", [].as_slice())?), 11);
-    Ok(())
+/// Whether the next subscript below the node after the one given is the one wanted; an empty text
+/// is none.
+fn next_is(tree: &Tree, alloc: Global, way: Way, after: &[u8], want: &[u8]) -> Result<bool, Fail> {
+    let at = node(alloc, way)?;
+    if after.is_empty() {
+        return is_sub(alloc, tree.next(&at, None), want);
+    }
+    let after = Sub::from_text(alloc, after)?;
+    is_sub(alloc, tree.next(&at, Some(&after)), want)
 }
+
+/// Numbers stand before texts, and the subscript 2 has no value of its own.
+const STEPS: [(Way, &[u8], &[u8]); 11] = [
+    ((b"a", b"", b""), b"", b"1"),
+    ((b"a", b"", b""), b"-5", b"1"),
+    ((b"a", b"", b""), b"0", b"1"),
+    ((b"a", b"", b""), b"1", b"2"),
+    ((b"a", b"", b""), b"2", b"b"),
+    ((b"a", b"", b""), b"7", b"b"),
+    ((b"a", b"", b""), b"a", b"b"),
+    ((b"a", b"", b""), b"b", b""),
+    ((b"a", b"", b""), b"c", b""),
+    ((b"a", b"2", b""), b"", b"x"),
+    ((b"b", b"", b""), b"", b""),
+];
 
 #[test]
 fn next_subscripts(rt: HostRuntime) -> Result<(), Fail> {
     let alloc = rt.alloc();
     let tree = small_tree(alloc)?;
-    let a = node(alloc, b"a", [].as_slice())?;
-    // numbers stand before texts; the subscript 2 has no value of its own
-    let steps = [
-        (b"-5".as_slice(), b"1".as_slice()),
-        (b"0", b"1"),
-        (b"1", b"2"),
-        (b"2", b"b"),
-        (b"7", b"b"),
-        (b"a", b"b"),
-        (b"b", b""),
-        (b"c", b""),
-    ];
-    for (after, want) in steps {
-        let after = Sub::from_text(alloc, after)?;
-        assert!(rt; is_next(alloc, tree.next(&a, Some(&after)), want)?);
+    for (way, after, want) in STEPS {
+        assert!(rt; next_is(&tree, alloc, way, after, want)?);
     }
-    assert!(rt; is_next(alloc, tree.next(&a, None), b"1")?);
-    let inner = node(alloc, b"a", [b"2".as_slice()].as_slice())?;
-    assert!(rt; is_next(alloc, tree.next(&inner, None), b"x")?);
-    let last = node(alloc, b"b", [].as_slice())?;
-    assert!(rt; is_next(alloc, tree.next(&last, None), b"")?);
     Ok(())
+}
+
+/// How many nodes are taken with the node.
+fn take(tree: &mut Tree, alloc: Global, way: Way) -> Result<usize, Fail>
+    requires { (n : Node) → pins_of tree.old.pins n ≡ 0 }
+{
+    let at = node(alloc, way)?;
+    let taken = tree.take_under(alloc, &at)?;
+    Ok(taken.len())
 }
 
 #[test]
 fn subtrees(rt: HostRuntime) -> Result<(), Fail> {
     let alloc = rt.alloc();
     let mut tree = small_tree(alloc)?;
-    let inner = node(alloc, b"a", [b"2".as_slice()].as_slice())?;
-    let taken = tree.take_under(alloc, &inner)?;
-    assert_eq!(rt; taken.len(), 1);
-    // the place that is still pinned has no value
-    let a = node(alloc, b"a", [].as_slice())?;
-    let one = Sub::from_text(alloc, b"1")?;
-    assert!(rt; is_next(alloc, tree.next(&a, Some(&one)), b"b")?);
-    assert_eq!(rt; tree.defined(&inner), 0);
+    let inner: Way = (b"a", b"2", b"");
+    assert_eq!(rt; take(&mut tree, alloc, inner)?, 1);
+    // the place is still pinned, and has no value
+    assert_eq!(rt; state(&tree, alloc, inner)?, 0);
+    assert!(rt; next_is(&tree, alloc, (b"a", b"", b""), b"1", b"b")?);
     assert_eq!(rt; tree.nodes(alloc)?.len(), 3);
     Ok(())
 }
 
+/// Whether the node has its value after it was put back, and none in between.
+fn puts_back(alloc: Global) -> Result<bool, Fail> {
+    let mut tree = Tree::new(alloc);
+    let at = node(alloc, (b"x", b"", b""))?;
+    let place = at.copy(alloc)?;
+    let value = value(alloc)?;
+    let before = tree.set(at, value)?;
+    tree.put_back(&place, None);
+    let gone = tree.defined(&place) == 0;
+    tree.put_back(&place, Some(self::value(alloc)?));
+    tree.unpin(&place);
+    Ok(before.is_none() && gone && tree.get(&place).is_some())
+}
+
 #[test]
 fn values_put_back(rt: HostRuntime) -> Result<(), Fail> {
-    let alloc = rt.alloc();
-    let mut tree = Tree::new(alloc);
-    let x = node(alloc, b"x", [].as_slice())?;
-    assert!(rt; tree.set(x.copy(alloc)?, text(alloc, b"1")?)?.is_none());
-    assert!(rt; tree.get(&x).is_some());
-    tree.put_back(&x, None);
-    assert!(rt; tree.get(&x).is_none());
-    assert_eq!(rt; tree.defined(&x), 0);
-    tree.put_back(&x, Some(text(alloc, b"2")?));
-    tree.unpin(&x);
-    assert_eq!(rt; tree.defined(&x), 1);
+    assert!(rt; puts_back(rt.alloc())?);
     Ok(())
 }

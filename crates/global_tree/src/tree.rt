@@ -23,12 +23,9 @@ pub struct Tree {
 }
 
 impl Model for Tree {
-    ghost use Rattle.std.specs.Prelude.{IsTrue};
-    ghost use Rattle.std.specs.FinMap.{is_sorted};
-    ghost use Rattle.obj_kinds.specs.Order.{node_cmp};
     ghost use Rattle.global_tree.specs.Contents.{Contents};
     ghost use Rattle.global_tree.specs.ContentsCode.{contents_code};
-    ghost use Rattle.global_tree.specs.Places.{contents};
+    ghost use Rattle.global_tree.specs.Places.{contents, IsTree};
 
     ghost Value = { Contents };
 
@@ -36,7 +33,7 @@ impl Model for Tree {
 
     ghost view = { λ t. contents t.places.items };
 
-    ghost invariant = { λ t. IsTrue (is_sorted node_cmp t.places.items) };
+    ghost invariant = { λ t. IsTree t.places.items };
 }
 
 impl Tree {

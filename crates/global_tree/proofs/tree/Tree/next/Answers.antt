@@ -21,10 +21,10 @@ next_is c =
     let node = c.args.node.now in
     let after = option_copied c.args.after in
     let start = c.partition_point-start.result in
-    let parts = IsPartitionPoint-from_clause (λ e. not (is_beyond node after e.0)) places start (rw c.as_slice-places.ensures.value at c.partition_point-start.ensures.partitioned) (parted node after places c.self.invariant) (λ a r h called. search rules) in
+    let parts = IsPartitionPoint-from_clause (λ e. not (is_beyond node after e.0)) places start (rw c.as_slice-places.ensures.value at c.partition_point-start.ensures.partitioned) (parted node after places c.self.invariant.rising) (λ a r h called. search rules) in
     let within : start ≤ length places = rw (← c.as_slice-places.ensures.value) c.partition_point-start.ensures.bound in
-    let found = from_start node after places start c.self.invariant within parts.0 parts.1 in
-    let seen = next_seen c.args.self.now.globals node after places (entries_seen places _ (record { rising = c.self.invariant; as_is = c.self.view_is })) in
+    let found = from_start node after places start c.self.invariant.rising within parts.0 parts.1 in
+    let seen = next_seen c.args.self.now.globals node after places (entries_seen places _ (record { rising = c.self.invariant.rising; as_is = c.self.view_is })) in
     c.first_step.ensures ∙ ap (first_step node) (open_end c.as_slice-places.result.now start ∙ ap (drop start) c.as_slice-places.ensures.value) ∙ found ∙ seen
 
 least_is : (g : Globals) (n : Node) (after : Option Sub) (r : Option (Bor Sub)) → option_copied r ≡ next_below g n after → IfSome r (λ s. IsNext g n after s.now)
