@@ -1,7 +1,7 @@
 -- The lines of a script: an object is made, a property is set, an object is saved.
 use Rattle.std.specs.Prelude.{ℕ, Bool, ◌&&◌, List, ◌∷◌, ◌++◌, codes}
 use Rattle.std.specs.List.{list_all}
-use Rattle.class_reader.specs.Names.{is_name}
+use Rattle.first_class.specs.Names.{is_name}
 use Rattle.first_path.specs.Pieces.{is_text_byte, is_short}
 
 pub data Line : Type 0 where

@@ -10,7 +10,7 @@ ghost use Rattle.first_path.specs.declared.act.Act.{Act as AnAct};
 use crate::act::Act;
 use crate::line::{Setting, fill_line_at, new_line_at, save_line_at};
 use crate::names::place_in;
-use class_reader::{FormError, TextClass};
+use first_class::{FormError, TextClass};
 use obj_kinds::{NoMemory, Text};
 use sqlite_items::Items;
 use std::alloc::Global;

@@ -1,8 +1,8 @@
 -- A class without a script is no form of the texts.
 use Rattle.std.proofs.Common.{List, ℕ, subst}
-use Rattle.class_reader.specs.declared.form.TextClass.{TextClass}
-use Rattle.class_reader.specs.TextClassForm.{IsTextClass}
-use Rattle.class_reader.proofs.TextClassForms.{one_class}
+use Rattle.first_class.specs.declared.form.TextClass.{TextClass}
+use Rattle.first_class.specs.TextClassForm.{IsTextClass}
+use Rattle.first_class.proofs.TextClassForms.{one_class}
 use Rattle.first_path.specs.Lines.{Line}
 use Rattle.first_path.specs.Script.{IsScript}
 use Rattle.first_path.specs.declared.act.Act.{Act}

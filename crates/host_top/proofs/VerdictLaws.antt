@@ -1,7 +1,7 @@
 -- What a verdict says of its status, and which verdict comes.
 use Rattle.std.proofs.Common.{◌≡◌, ℕ, ◌<◌, ◌≤◌, ◌⊎◌, inl, inr, List, [], ◌∷◌, ◌++◌, length, Option, Some, None, codes, refl, sym, ap, subst, ◌∙◌, arith}
 use Rattle.std.specs.Option.{IfSome}
-use Rattle.class_reader.specs.declared.form.TextClass.{TextClass}
+use Rattle.first_class.specs.declared.form.TextClass.{TextClass}
 use Rattle.first_path.specs.declared.act.Act.{Act}
 use Rattle.first_path.specs.Lines.{Line}
 use Rattle.host_top.specs.Words.{Names, AreRunWords, AreNoRunWords}

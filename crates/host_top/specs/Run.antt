@@ -2,7 +2,7 @@
 use Rattle.std.specs.Prelude.{◌≡◌, ℕ, ◌≤◌, ◌⊎◌, List, [], ◌∷◌, ◌++◌, length, codes, Option, Some, slice_get}
 use Rattle.std.specs.Option.{IfSome}
 use Rattle.obj_edges.specs.Told.{Rises, Adds}
-use Rattle.class_reader.specs.declared.form.TextClass.{TextClass}
+use Rattle.first_class.specs.declared.form.TextClass.{TextClass}
 use Rattle.first_path.specs.Lines.{Line}
 use Rattle.first_path.specs.World.{world_of}
 use Rattle.first_path.specs.Play.{IsPlayed, AddsCut, prints_of, IsWhole, IsCut}

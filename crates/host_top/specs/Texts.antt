@@ -1,8 +1,8 @@
 -- The texts of a run, as its files tell them.
 use Rattle.std.specs.Prelude.{◌≡◌, ℕ, ◌<◌, ◌≤◌, ◌⊎◌, List, [], ◌∷◌, ◌++◌, length, Option, Some}
 use Rattle.std.specs.Option.{IfSome}
-use Rattle.class_reader.specs.declared.form.TextClass.{TextClass}
-use Rattle.class_reader.specs.TextClassForm.{IsTextClass}
+use Rattle.first_class.specs.declared.form.TextClass.{TextClass}
+use Rattle.first_class.specs.TextClassForm.{IsTextClass}
 use Rattle.first_path.specs.Lines.{Line}
 use Rattle.first_path.specs.Script.{IsScript}
 use Rattle.first_path.specs.declared.act.Act.{Act}

@@ -1,7 +1,7 @@
 -- How a run ended, and what is known then.
 use Rattle.std.specs.Prelude.{◌≡◌, ℕ, ◌<◌, ◌≤◌, ◌⊎◌, List, [], ◌∷◌, length, Option, Some, slice_get, codes, ◌++◌}
 use Rattle.obj_edges.specs.Told.{Rises, Adds}
-use Rattle.class_reader.specs.declared.form.TextClass.{TextClass}
+use Rattle.first_class.specs.declared.form.TextClass.{TextClass}
 use Rattle.first_path.specs.declared.act.Act.{Act}
 use Rattle.first_path.specs.Lines.{Line}
 use Rattle.host_top.specs.Words.{AreRunWords, AreNoRunWords}

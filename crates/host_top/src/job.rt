@@ -6,7 +6,7 @@ ghost use Rattle.host_top.specs.Report.{report_of, ending_line as line_of};
 ghost use Rattle.host_top.specs.Run.{HasRun};
 
 use crate::texts::Texts;
-use class_reader::{FormError, TextClass, read_text_class};
+use first_class::{FormError, TextClass, read_text_class};
 use first_path::{Act, Ending, Fields, MAX_LINES, image, play, read_script};
 use global_dump::dump;
 use obj_edges::Device;

@@ -9,7 +9,7 @@ use crate::job::{Job, run, understand};
 use crate::refusal::Refusal;
 use crate::texts::read_texts;
 use crate::verdict::Verdict;
-use class_reader::FormError;
+use first_class::FormError;
 use first_path::{Ending, MAX_LINES};
 use obj_edges::{Device, Files, Put, Sink};
 use std::alloc::Global;

@@ -3,7 +3,7 @@ use Rattle.std.proofs.lemmas.Result.{err_from_is_err_and}
 use Rattle.first_path.specs.Lines.{Line}
 use Rattle.first_path.specs.Script.{IsScript}
 use Rattle.first_path.specs.declared.act.Act.{Act}
-use Rattle.class_reader.specs.TextClassForm.{IsTextClass}
+use Rattle.first_class.specs.TextClassForm.{IsTextClass}
 use Rattle.host_top.proofs.Forms.{no_script_form}
 use Rattle.host_top.proofs.job.understand.Goals as goal
 

@@ -2,9 +2,9 @@
 use Rattle.std.specs.Prelude.{ℕ, Bool, true, false, cond, ◌&&◌, ◌==◌, nat_le, List, [], ◌∷◌, length, Option, Some, None}
 use Rattle.std.specs.Option.{option_map_or}
 use Rattle.std.specs.List.{list_all, list_any}
-use Rattle.class_reader.specs.Words.{is_letter, is_alphanumeric}
-use Rattle.class_reader.specs.declared.names.Place.{Place}
-use Rattle.class_reader.specs.declared.names.Place.TheVariants.{Word, Letter, Inside}
+use Rattle.first_class.specs.Words.{is_letter, is_alphanumeric}
+use Rattle.first_class.specs.declared.names.Place.{Place}
+use Rattle.first_class.specs.declared.names.Place.TheVariants.{Word, Letter, Inside}
 
 -- a letter, and then letters and digits, 31 at most
 abbrev pub is_name : List ℕ → Bool

@@ -3,9 +3,9 @@ use Rattle.std.proofs.Common.{◌≡◌, ℕ, zero, suc, ◌+◌, ◌-◌, ◌<�
 use Rattle.std.specs.Option.{option_map, option_and_then}
 use Rattle.std.specs.Str.{bytes_eq}
 use Rattle.std.proofs.lemmas.Slice.Eq.{bytes_eq-Decides}
-use Rattle.class_reader.specs.Names.{is_name, is_class_name}
-use Rattle.class_reader.specs.TextClassForm.{Wanted, Keyword, Exact, is_wanted, AreWanted, property_words}
-use Rattle.class_reader.specs.TextClassReading.{Tokens, after, named, named_until, property_in, property_end, head_in, head_end}
+use Rattle.first_class.specs.Names.{is_name, is_class_name}
+use Rattle.first_class.specs.TextClassForm.{Wanted, Keyword, Exact, is_wanted, AreWanted, property_words}
+use Rattle.first_class.specs.TextClassReading.{Tokens, after, named, named_until, property_in, property_end, head_in, head_end}
 
 pub and_then-is : {A B : Type 0} (f : A → Option B) (o : Option A) (b : B) → option_and_then f o ≡ Some b → (a : A) × (o ≡ Some a) × (f a ≡ Some b)
 and_then-is f None b h = cc

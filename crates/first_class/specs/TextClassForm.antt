@@ -4,9 +4,9 @@ use Rattle.std.specs.Option.{option_map, option_and_then}
 use Rattle.std.specs.List.{flat_map, list_all, list_any}
 use Rattle.std.specs.Str.{bytes_eq}
 use Rattle.std.specs.Char.{to_ascii_lowercase}
-use Rattle.class_reader.specs.Words.{words_of}
-use Rattle.class_reader.specs.Names.{is_name, is_class_name}
-use Rattle.class_reader.specs.declared.form.TextClass.{TextClass}
+use Rattle.first_class.specs.Words.{words_of}
+use Rattle.first_class.specs.Names.{is_name, is_class_name}
+use Rattle.first_class.specs.declared.form.TextClass.{TextClass}
 
 -- a word of the language may stand in any case of letters, a name may not
 pub data Wanted : Type 0 where

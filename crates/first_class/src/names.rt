@@ -1,7 +1,7 @@
 ghost use Rattle.std.specs.Prelude.{◌≡◌, ◌==◌};
 ghost use Rattle.std.specs.List.{list_all, list_any};
-ghost use Rattle.class_reader.specs.Words.{is_letter, is_alphanumeric};
-ghost use Rattle.class_reader.specs.Names.{is_name as name_test, is_class_name as class_name_test, next_place, is_inside, are_words as words_test};
+ghost use Rattle.first_class.specs.Words.{is_letter, is_alphanumeric};
+ghost use Rattle.first_class.specs.Names.{is_name as name_test, is_class_name as class_name_test, next_place, is_inside, are_words as words_test};
 
 /// Where the reading of words that are joined by dots stands.
 #[derive(Clone, Copy, Debug)]

@@ -1,6 +1,6 @@
 use Rattle.std.proofs.Common.{◌≡◌, ◌++◌, [], drop}
-use Rattle.class_reader.specs.Words.{words_from}
-use Rattle.class_reader.proofs.words.words_of.Given as goal
+use Rattle.first_class.specs.Words.{words_from}
+use Rattle.first_class.proofs.words.words_of.Given as goal
 
 -- the words so far, with those of the rest
 abbrev pub invariant-loop-byte : goal.invariant-loop-byte

@@ -1,10 +1,10 @@
 use Rattle.std.proofs.Common.{◌≡◌, List, ℕ, Result, Err, Some, ◌∙◌, sym, ap}
 use Rattle.std.proofs.lemmas.Result.{err_from_is_err_and}
-use Rattle.class_reader.specs.Words.{words_of}
-use Rattle.class_reader.specs.TextClassForm.{are_distinct}
-use Rattle.class_reader.specs.TextClassReading.{head_in, properties_in}
-use Rattle.class_reader.proofs.TextClassForms.{form_of_parts, no_head, no_props, not_distinct}
-use Rattle.class_reader.proofs.text_class.read_text_class.Goals as goal
+use Rattle.first_class.specs.Words.{words_of}
+use Rattle.first_class.specs.TextClassForm.{are_distinct}
+use Rattle.first_class.specs.TextClassReading.{head_in, properties_in}
+use Rattle.first_class.proofs.TextClassForms.{form_of_parts, no_head, no_props, not_distinct}
+use Rattle.first_class.proofs.text_class.read_text_class.Goals as goal
 
 pub returns-in_default-clause-refused : goal.returns-in_default-clause-refused
 returns-in_default-clause-refused c refused =

@@ -1,7 +1,7 @@
 use Rattle.std.proofs.Common.{◌≡◌, drop}
-use Rattle.class_reader.specs.declared.names.Place.TheVariants.{Word}
-use Rattle.class_reader.specs.Names.{are_words}
-use Rattle.class_reader.proofs.names.are_words.Given as goal
+use Rattle.first_class.specs.declared.names.Place.TheVariants.{Word}
+use Rattle.first_class.specs.Names.{are_words}
+use Rattle.first_class.proofs.names.are_words.Given as goal
 
 -- the rest decides
 abbrev pub invariant-loop-byte : goal.invariant-loop-byte

@@ -1,5 +1,5 @@
 ghost use Rattle.std.specs.Prelude.{◌≡◌, ◌++◌, [], ◌∷◌, OnOk, IfOk};
-ghost use Rattle.class_reader.specs.Words.{is_blank, ends_in_dot, goes_on, one_word, words_of as words_in};
+ghost use Rattle.first_class.specs.Words.{is_blank, ends_in_dot, goes_on, one_word, words_of as words_in};
 
 use crate::names::is_alphanumeric_byte;
 use obj_kinds::{NoMemory, Text};

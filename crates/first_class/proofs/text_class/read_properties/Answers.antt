@@ -1,6 +1,6 @@
 use Rattle.std.proofs.Common.{◌≡◌, ◌∙◌, refl, sym, ap, cond, Some, None, arith}
-use Rattle.class_reader.proofs.TextClassLaws.{turn_full, turn_pushed, turn_end, turn_smaller}
-use Rattle.class_reader.proofs.text_class.read_properties.Goals as goal
+use Rattle.first_class.proofs.TextClassLaws.{turn_full, turn_pushed, turn_end, turn_smaller}
+use Rattle.first_class.proofs.text_class.read_properties.Goals as goal
 
 pub returns-then-len-ge-MAX_PROPERTIES-clause-refused : goal.returns-then-len-ge-MAX_PROPERTIES-clause-refused
 returns-then-len-ge-MAX_PROPERTIES-clause-refused c refused =

@@ -1,7 +1,7 @@
 use Rattle.std.proofs.Common.{◌≡◌, ◌++◌, ◌-◌, ◌≤◌, length}
 use Rattle.std.specs.Option.{option_map}
-use Rattle.class_reader.specs.TextClassReading.{properties_in}
-use Rattle.class_reader.proofs.text_class.read_properties.Given as goal
+use Rattle.first_class.specs.TextClassReading.{properties_in}
+use Rattle.first_class.proofs.text_class.read_properties.Given as goal
 
 -- the properties so far, with those of the rest
 abbrev pub invariant-loop-property : goal.invariant-loop-property

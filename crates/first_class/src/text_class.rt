@@ -2,10 +2,10 @@ ghost use Rattle.std.specs.Prelude.{◌≡◌, ◌∷◌, ℕ, List, IfOk, Some,
 ghost use Rattle.std.specs.Option.{option_copied, option_map, option_and_then};
 ghost use Rattle.std.specs.List.{list_any};
 ghost use Rattle.std.specs.Str.{bytes_eq};
-ghost use Rattle.class_reader.specs.Names.{is_name as name_test, is_class_name as class_name_test};
-ghost use Rattle.class_reader.specs.TextClassForm.{Keyword, Exact, is_wanted, are_distinct as distinct_test, IsTextClass};
-ghost use Rattle.class_reader.specs.TextClassReading.{after, named, property_in, head_in, property_end, head_end, named_until, is_last_brace as last_brace_test, properties_in};
-ghost use Rattle.class_reader.specs.declared.form.TextClass.{TextClass as Class};
+ghost use Rattle.first_class.specs.Names.{is_name as name_test, is_class_name as class_name_test};
+ghost use Rattle.first_class.specs.TextClassForm.{Keyword, Exact, is_wanted, are_distinct as distinct_test, IsTextClass};
+ghost use Rattle.first_class.specs.TextClassReading.{after, named, property_in, head_in, property_end, head_end, named_until, is_last_brace as last_brace_test, properties_in};
+ghost use Rattle.first_class.specs.declared.form.TextClass.{TextClass as Class};
 
 use crate::form::{FormError, TextClass};
 use crate::names::{is_class_name, is_name};

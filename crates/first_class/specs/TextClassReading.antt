@@ -1,8 +1,8 @@
 -- How the words of such a file are read: each step answers what follows the words that it took.
 use Rattle.std.specs.Prelude.{ℕ, suc, zero, Bool, true, false, ◌&&◌, not, cond, List, [], ◌∷◌, ◌++◌, map, codes, Option, Some, None}
 use Rattle.std.specs.Option.{option_map, option_and_then}
-use Rattle.class_reader.specs.Names.{is_name, is_class_name}
-use Rattle.class_reader.specs.TextClassForm.{Wanted, Keyword, Exact, is_wanted}
+use Rattle.first_class.specs.Names.{is_name, is_class_name}
+use Rattle.first_class.specs.TextClassForm.{Wanted, Keyword, Exact, is_wanted}
 
 abbrev pub Tokens : Type 0
 Tokens = List (List ℕ)

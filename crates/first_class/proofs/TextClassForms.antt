@@ -1,12 +1,12 @@
 -- A text has the form exactly where its parts are read.
 use Rattle.std.proofs.Common.{◌≡◌, ℕ, Bool, true, false, List, [], ◌∷◌, ◌++◌, Option, Some, None, IsTrue, refl, sym, ap, subst, ◌∙◌}
 use Rattle.std.specs.List.{flat_map}
-use Rattle.class_reader.specs.declared.form.TextClass.{TextClass}
-use Rattle.class_reader.specs.Words.{words_of}
-use Rattle.class_reader.specs.TextClassForm.{IsTextClass, property_words, are_distinct}
-use Rattle.class_reader.specs.TextClassReading.{Tokens, head_in, properties_in}
-use Rattle.class_reader.proofs.TextClassSteps.{head_in-is, head_in-takes}
-use Rattle.class_reader.proofs.TextClassLaws.{close, properties_in-is, properties_in-takes}
+use Rattle.first_class.specs.declared.form.TextClass.{TextClass}
+use Rattle.first_class.specs.Words.{words_of}
+use Rattle.first_class.specs.TextClassForm.{IsTextClass, property_words, are_distinct}
+use Rattle.first_class.specs.TextClassReading.{Tokens, head_in, properties_in}
+use Rattle.first_class.proofs.TextClassSteps.{head_in-is, head_in-takes}
+use Rattle.first_class.proofs.TextClassLaws.{close, properties_in-is, properties_in-takes}
 
 some_pair : (a b : List ℕ × Tokens) → Some a ≡ Some b → a ≡ b
 some_pair a b h = cc

@@ -19,7 +19,7 @@ pub enum FormError {
 
 impl From<NoMemory> for FormError {
     ghost use Rattle.std.specs.Prelude.{◌≡◌};
-    ghost use Rattle.class_reader.specs.declared.form.FormError.TheVariants.{NoMemory};
+    ghost use Rattle.first_class.specs.declared.form.FormError.TheVariants.{NoMemory};
 
     ghost from_gives = { λ _ e. e ≡ NoMemory };
 
@@ -30,7 +30,7 @@ impl From<NoMemory> for FormError {
 
 impl From<AllocError> for FormError {
     ghost use Rattle.std.specs.Prelude.{◌≡◌};
-    ghost use Rattle.class_reader.specs.declared.form.FormError.TheVariants.{NoMemory};
+    ghost use Rattle.first_class.specs.declared.form.FormError.TheVariants.{NoMemory};
 
     ghost from_gives = { λ _ e. e ≡ NoMemory };
 

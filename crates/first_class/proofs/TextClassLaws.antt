@@ -3,10 +3,10 @@ use Rattle.std.proofs.Common.{◌≡◌, ℕ, zero, suc, ◌+◌, ◌-◌, ◌<�
 use Rattle.std.specs.Option.{option_map}
 use Rattle.std.specs.List.{flat_map, list_all}
 use Rattle.std.proofs.lemmas.Slice.Eq.{bytes_eq-Decides}
-use Rattle.class_reader.specs.Names.{is_name}
-use Rattle.class_reader.specs.TextClassForm.{Wanted, Exact, is_wanted, AreWanted, property_words}
-use Rattle.class_reader.specs.TextClassReading.{Tokens, property_in, is_last_brace, properties_by, properties_in}
-use Rattle.class_reader.proofs.TextClassSteps.{property_in-is, property_in-takes}
+use Rattle.first_class.specs.Names.{is_name}
+use Rattle.first_class.specs.TextClassForm.{Wanted, Exact, is_wanted, AreWanted, property_words}
+use Rattle.first_class.specs.TextClassReading.{Tokens, property_in, is_last_brace, properties_by, properties_in}
+use Rattle.first_class.proofs.TextClassSteps.{property_in-is, property_in-takes}
 
 pub properties_in-step : (room : ℕ) (tokens : Tokens) (p : List ℕ × Tokens) → property_in tokens ≡ Some p → properties_in (suc room) tokens ≡ option_map (λ names. p.0 ∷ names) (properties_in room p.1)
 unfolding properties_in
