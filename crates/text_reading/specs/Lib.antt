@@ -1,0 +1,5 @@
+pub mod Tokens
+pub mod Places
+pub mod Parsing
+pub mod Grammar
+pub mod Reading
