@@ -4,3 +4,4 @@ pub mod Optionals
 pub mod Lengths
 pub mod Choices
 pub mod ReadingLaws
+pub mod PlaceLemmas

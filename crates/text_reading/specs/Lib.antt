@@ -3,3 +3,4 @@ pub mod Places
 pub mod Parsing
 pub mod Grammar
 pub mod Reading
+pub mod Marking

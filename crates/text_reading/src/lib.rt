@@ -3,9 +3,11 @@
 //! own kinds of token, its own lexer and its own reasons; the laws here are proved once for all of them.
 #![tactic(auto)]
 
+mod marks;
 mod places;
 mod stop;
 
+pub use marks::Marks;
 pub use places::{Place, place_at};
 pub use stop::{Refusal, Stop};
 

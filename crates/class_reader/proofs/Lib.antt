@@ -1,0 +1,5 @@
+pub mod LexLemmas
+pub mod CursorLemmas
+pub mod Lasting
+pub mod MemberLasting
+pub mod TokenLaws

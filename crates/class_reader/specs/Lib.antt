@@ -1,0 +1,16 @@
+pub mod ClassKinds
+pub mod ClassModes
+pub mod ClassBytes
+pub mod ClassBlocks
+pub mod ClassLex
+pub mod ClassSteps
+pub mod ClassCursor
+pub mod ClassNames
+pub mod ClassKeys
+pub mod ClassValues
+pub mod ClassKeywords
+pub mod ClassProperties
+pub mod ClassMembers
+pub mod ClassFile
+pub mod ClassReading
+pub mod ClassTokens
