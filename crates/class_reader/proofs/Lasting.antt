@@ -3,14 +3,14 @@ use Rattle.std.proofs.Common.{◌≡◌, Bool, true, false, ◌∷◌, ◌++◌,
 use Rattle.text_reading.specs.Tokens.{Bytes}
 use Rattle.text_reading.proofs.Theory.{always}
 use Rattle.text_reading.proofs.Lengths.{Keeps, Uses, keeps_pure, keeps_then, keeps_says, keeps_either, keeps_pick, keeps_expect, keeps_many, uses_then, uses_pick, uses_expect}
-use Rattle.class_reader.specs.declared.token.Kind.{Kind}
-use Rattle.class_reader.specs.declared.token.Kind.TheVariants as k
+use Rattle.class_tokens.specs.declared.token.Kind.{Kind}
+use Rattle.class_tokens.specs.declared.token.Kind.TheVariants as k
 use Rattle.class_reader.specs.declared.keys.Section.{Section}
 use Rattle.class_reader.specs.declared.keys.Given.{Given}
 use Rattle.class_reader.specs.declared.keys.Rule.{Rule}
 use Rattle.class_reader.specs.declared.keys.Bounds.{Bounds}
-use Rattle.class_reader.specs.ClassKinds.{same_kind, is_word, is_number, is_text, is_block}
-use Rattle.class_reader.specs.ClassSteps.{tongue, Parser, Limit, spelled, text_of, expect}
+use Rattle.class_tokens.specs.ClassKinds.{same_kind, is_word, is_number, is_text, is_block}
+use Rattle.class_tokens.specs.ClassSteps.{tongue, Parser, Limit, spelled, text_of, expect}
 use Rattle.obj_kinds.specs.declared.name.ClassName.{ClassName}
 use Rattle.schema_kinds.specs.declared.method.Arg.{Arg}
 use Rattle.class_reader.specs.ClassNames.{is_dot, name, class_word, class_name, name_dot, further_word, dotted, name_rest}

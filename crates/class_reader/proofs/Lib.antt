@@ -1,5 +1,2 @@
-pub mod LexLemmas
-pub mod CursorLemmas
 pub mod Lasting
 pub mod MemberLasting
-pub mod TokenLaws

@@ -9,13 +9,13 @@ use Rattle.schema_kinds.specs.declared.method.Method.{Method}
 use Rattle.text_reading.specs.Tokens.{Bytes}
 use Rattle.text_reading.proofs.Theory.{always}
 use Rattle.text_reading.proofs.Lengths.{Keeps, Uses, keeps_pure, keeps_then, keeps_says, keeps_either, keeps_pick, keeps_expect, keeps_many, uses_then, uses_expect, uses_either}
-use Rattle.class_reader.specs.declared.token.Kind.{Kind}
-use Rattle.class_reader.specs.declared.token.Kind.TheVariants as k
+use Rattle.class_tokens.specs.declared.token.Kind.{Kind}
+use Rattle.class_tokens.specs.declared.token.Kind.TheVariants as k
 use Rattle.class_reader.specs.declared.keys.Section.TheVariants as section
 use Rattle.class_reader.specs.declared.keys.Rule.TheVariants.{Skipped}
 use Rattle.class_reader.specs.declared.classes.Members.{Members}
-use Rattle.class_reader.specs.ClassKinds.{is, same_kind, is_name, is_block, is_member_word}
-use Rattle.class_reader.specs.ClassSteps.{tongue, cut_limit}
+use Rattle.class_tokens.specs.ClassKinds.{is, same_kind, is_name, is_block, is_member_word}
+use Rattle.class_tokens.specs.ClassSteps.{tongue, cut_limit}
 use Rattle.class_reader.specs.ClassNames.{fresh_if, fresh, own_word, own_name, dotted, name_dot, further_word, package_of}
 use Rattle.class_reader.specs.ClassKeys.{no_bounds}
 use Rattle.class_reader.specs.ClassValues.{is_comma, further_bound, more_bounds, bounds, is_equals, block}

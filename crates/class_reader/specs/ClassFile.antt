@@ -5,15 +5,15 @@ use Rattle.schema_kinds.specs.declared.tree.ClassTree.{ClassTree}
 use Rattle.schema_kinds.specs.declared.tree.PropTree.{PropTree}
 use Rattle.schema_kinds.specs.declared.class.Index.{Index}
 use Rattle.schema_kinds.specs.declared.method.Method.{Method}
-use Rattle.class_reader.specs.declared.token.Kind.{Kind}
-use Rattle.class_reader.specs.declared.token.Kind.TheVariants as k
-use Rattle.class_reader.specs.declared.error.ClassWhy.TheVariants as why
+use Rattle.class_tokens.specs.declared.token.Kind.{Kind}
+use Rattle.class_tokens.specs.declared.token.Kind.TheVariants as k
+use Rattle.class_tokens.specs.declared.error.ClassWhy.TheVariants as why
 use Rattle.class_reader.specs.declared.keys.Section.TheVariants as section
 use Rattle.class_reader.specs.declared.classes.Members.{Members}
 use Rattle.text_reading.specs.Tokens.{Bytes}
 use Rattle.text_reading.specs.Parsing.{◌>>=◌, ◌>>◌, ◌<$>◌, pure}
-use Rattle.class_reader.specs.ClassKinds.{is, is_member_word}
-use Rattle.class_reader.specs.ClassSteps.{Parser, limit, spelled, either, many, expect}
+use Rattle.class_tokens.specs.ClassKinds.{is, is_member_word}
+use Rattle.class_tokens.specs.ClassSteps.{Parser, limit, spelled, either, many, expect}
 use Rattle.class_reader.specs.ClassNames.{class_name, own_name, whole_name, package_of}
 use Rattle.class_reader.specs.ClassKeywords.{keywords}
 use Rattle.class_reader.specs.ClassValues.{is_comma}

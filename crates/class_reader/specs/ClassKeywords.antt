@@ -1,15 +1,15 @@
 -- Keywords in brackets.
 use Rattle.std.specs.Prelude.{Bool, true, false, nat_lt, None, length}
-use Rattle.class_reader.specs.declared.token.Kind.{Kind}
-use Rattle.class_reader.specs.declared.token.Kind.TheVariants as k
-use Rattle.class_reader.specs.declared.error.ClassWhy.TheVariants as why
+use Rattle.class_tokens.specs.declared.token.Kind.{Kind}
+use Rattle.class_tokens.specs.declared.token.Kind.TheVariants as k
+use Rattle.class_tokens.specs.declared.error.ClassWhy.TheVariants as why
 use Rattle.class_reader.specs.declared.keys.Section.{Section}
 use Rattle.class_reader.specs.declared.keys.Given.{Given}
 use Rattle.class_reader.specs.declared.keywords.Key.{Key}
 use Rattle.text_reading.specs.Tokens.{Bytes}
 use Rattle.text_reading.specs.Parsing.{◌>>=◌, ◌>>◌, ◌<$>◌, pure}
-use Rattle.class_reader.specs.ClassKinds.{is, is_word}
-use Rattle.class_reader.specs.ClassSteps.{Parser, limit, no_limit, spelled, either, many, expect}
+use Rattle.class_tokens.specs.ClassKinds.{is, is_word}
+use Rattle.class_tokens.specs.ClassSteps.{Parser, limit, no_limit, spelled, either, many, expect}
 use Rattle.class_reader.specs.ClassKeys.{rule_of, is_left_out, noted, nothing_given}
 use Rattle.class_reader.specs.ClassValues.{given_value, is_comma}
 

@@ -5,9 +5,9 @@ use Rattle.std.specs.List.{list_any}
 use Rattle.schema_kinds.specs.declared.class.Index.{Index}
 use Rattle.schema_kinds.specs.declared.method.Arg.{Arg}
 use Rattle.schema_kinds.specs.declared.method.Method.{Method}
-use Rattle.class_reader.specs.declared.token.Kind.{Kind}
-use Rattle.class_reader.specs.declared.token.Kind.TheVariants as k
-use Rattle.class_reader.specs.declared.error.ClassWhy.TheVariants as why
+use Rattle.class_tokens.specs.declared.token.Kind.{Kind}
+use Rattle.class_tokens.specs.declared.token.Kind.TheVariants as k
+use Rattle.class_tokens.specs.declared.error.ClassWhy.TheVariants as why
 use Rattle.class_reader.specs.declared.keys.Section.TheVariants as section
 use Rattle.class_reader.specs.declared.keys.Rule.TheVariants.{Skipped}
 use Rattle.class_reader.specs.declared.members.Body.{Body}
@@ -15,8 +15,8 @@ use Rattle.text_reading.specs.declared.places.Place.{Place}
 use Rattle.text_reading.specs.Tokens.{Bytes}
 use Rattle.text_reading.specs.Places.{place_of}
 use Rattle.text_reading.specs.Parsing.{◌>>=◌, ◌>>◌, ◌<$>◌, pure}
-use Rattle.class_reader.specs.ClassKinds.{is_name, is_block}
-use Rattle.class_reader.specs.ClassSteps.{Token, Parser, limit, cut_limit, spelled, pick, either, many, expect}
+use Rattle.class_tokens.specs.ClassKinds.{is_name, is_block}
+use Rattle.class_tokens.specs.ClassSteps.{Token, Parser, limit, cut_limit, spelled, pick, either, many, expect}
 use Rattle.class_reader.specs.ClassNames.{name, fresh, class_name}
 use Rattle.class_reader.specs.ClassKeywords.{keywords}
 use Rattle.class_reader.specs.ClassValues.{is_comma, is_equals, literal, value, block}

@@ -2,13 +2,13 @@
 use Rattle.std.specs.Prelude.{ℕ, zero, suc, ◌+◌, Bool, false, ◌||◌, if◌then◌else◌, ◌==◌, nat_lt, None, ◌∷◌, ◌++◌, take, drop, length, slice_index, codes}
 use Rattle.std.specs.Str.{bytes_eq}
 use Rattle.std.specs.List.{list_any}
-use Rattle.class_reader.specs.declared.token.Kind.{Kind}
-use Rattle.class_reader.specs.declared.token.Kind.TheVariants as k
-use Rattle.class_reader.specs.declared.error.ClassWhy.TheVariants as why
+use Rattle.class_tokens.specs.declared.token.Kind.{Kind}
+use Rattle.class_tokens.specs.declared.token.Kind.TheVariants as k
+use Rattle.class_tokens.specs.declared.error.ClassWhy.TheVariants as why
 use Rattle.text_reading.specs.Tokens.{Bytes, head_text}
 use Rattle.text_reading.specs.Parsing.{◌>>=◌, ◌>>◌, ◌<$>◌}
-use Rattle.class_reader.specs.ClassKinds.{is, is_name, is_word, is_own_word}
-use Rattle.class_reader.specs.ClassSteps.{Limit, Parser, limit, spelled, many}
+use Rattle.class_tokens.specs.ClassKinds.{is, is_name, is_word, is_own_word}
+use Rattle.class_tokens.specs.ClassSteps.{Limit, Parser, limit, spelled, many}
 
 -- more than 31 bytes
 abbrev pub name_limit : Limit

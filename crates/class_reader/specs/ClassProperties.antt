@@ -5,9 +5,9 @@ use Rattle.std.specs.List.{list_any}
 use Rattle.schema_kinds.specs.declared.tree.Form.{Form}
 use Rattle.schema_kinds.specs.declared.tree.Form.TheVariants as form
 use Rattle.schema_kinds.specs.declared.tree.PropTree.{PropTree}
-use Rattle.class_reader.specs.declared.token.Kind.{Kind}
-use Rattle.class_reader.specs.declared.token.Kind.TheVariants as k
-use Rattle.class_reader.specs.declared.error.ClassWhy.TheVariants as why
+use Rattle.class_tokens.specs.declared.token.Kind.{Kind}
+use Rattle.class_tokens.specs.declared.token.Kind.TheVariants as k
+use Rattle.class_tokens.specs.declared.error.ClassWhy.TheVariants as why
 use Rattle.class_reader.specs.declared.keys.Section.TheVariants as section
 use Rattle.class_reader.specs.declared.keys.Given.{Given}
 use Rattle.class_reader.specs.declared.keys.Bounds.{Bounds}
@@ -15,8 +15,8 @@ use Rattle.class_reader.specs.declared.properties.TypeName.{TypeName}
 use Rattle.class_reader.specs.declared.properties.Typed.{Typed}
 use Rattle.text_reading.specs.Tokens.{Bytes}
 use Rattle.text_reading.specs.Parsing.{◌>>=◌, ◌>>◌, ◌<$>◌, pure}
-use Rattle.class_reader.specs.ClassKinds.{is}
-use Rattle.class_reader.specs.ClassSteps.{Parser, limit, no_limit, spelled, either, expect}
+use Rattle.class_tokens.specs.ClassKinds.{is}
+use Rattle.class_tokens.specs.ClassSteps.{Parser, limit, no_limit, spelled, either, expect}
 use Rattle.class_reader.specs.ClassNames.{fresh, class_name, name_rest, whole_name}
 use Rattle.class_reader.specs.ClassKeys.{no_bounds}
 use Rattle.class_reader.specs.ClassKeywords.{keywords}

@@ -1,15 +1,15 @@
 -- What the reader of class files answers.
 use Rattle.std.specs.Prelude.{◌≡◌, ℕ, List, Result, Ok, Err, false}
 use Rattle.schema_kinds.specs.declared.tree.ClassTree.{ClassTree}
-use Rattle.class_reader.specs.declared.error.ClassWhy.{ClassWhy}
+use Rattle.class_tokens.specs.declared.error.ClassWhy.{ClassWhy}
 use Rattle.class_reader.specs.declared.error.ReadError.{ReadError}
 use Rattle.class_reader.specs.declared.error.ReadError.TheVariants.{BadClass, NoMemory}
 use Rattle.text_reading.specs.declared.stop.Refusal.{Refusal}
 use Rattle.text_reading.specs.Tokens.{Bytes}
 use Rattle.text_reading.specs.Places.{place_of}
 use Rattle.text_reading.specs.Reading.{whole}
-use Rattle.class_reader.specs.ClassLex.{file_tokens}
-use Rattle.class_reader.specs.ClassSteps.{tongue}
+use Rattle.class_tokens.specs.ClassLex.{file_tokens}
+use Rattle.class_tokens.specs.ClassSteps.{tongue}
 use Rattle.class_reader.specs.ClassFile.{classes}
 
 -- the classes of a text, or its first refusal

@@ -1,14 +1,14 @@
 -- Numbers, strings and values.
 use Rattle.std.specs.Prelude.{Bool, true, false, if◌then◌else◌, ◌==◌, nat_lt, Option, Some, None, [], ◌∷◌, drop, length, slice_index}
-use Rattle.class_reader.specs.declared.token.Kind.{Kind}
-use Rattle.class_reader.specs.declared.token.Kind.TheVariants as k
-use Rattle.class_reader.specs.declared.error.ClassWhy.TheVariants as why
+use Rattle.class_tokens.specs.declared.token.Kind.{Kind}
+use Rattle.class_tokens.specs.declared.token.Kind.TheVariants as k
+use Rattle.class_tokens.specs.declared.error.ClassWhy.TheVariants as why
 use Rattle.class_reader.specs.declared.keys.Rule.{Rule}
 use Rattle.class_reader.specs.declared.keys.Bounds.{Bounds}
 use Rattle.text_reading.specs.Tokens.{Bytes}
 use Rattle.text_reading.specs.Parsing.{◌>>=◌, ◌>>◌, ◌<$>◌, pure}
-use Rattle.class_reader.specs.ClassKinds.{is, is_word, is_number, is_text, is_block}
-use Rattle.class_reader.specs.ClassSteps.{Parser, Stopped, limit, cut_limit, spelled, either, many, expect}
+use Rattle.class_tokens.specs.ClassKinds.{is, is_word, is_number, is_text, is_block}
+use Rattle.class_tokens.specs.ClassSteps.{Parser, Stopped, limit, cut_limit, spelled, either, many, expect}
 use Rattle.class_reader.specs.ClassNames.{name_rest}
 use Rattle.class_reader.specs.ClassKeys.{bars_word, bars_block, is_only, is_left_out_bound, no_bounds, bound}
 

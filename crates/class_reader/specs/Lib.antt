@@ -1,10 +1,3 @@
-pub mod ClassKinds
-pub mod ClassModes
-pub mod ClassBytes
-pub mod ClassBlocks
-pub mod ClassLex
-pub mod ClassSteps
-pub mod ClassCursor
 pub mod ClassNames
 pub mod ClassKeys
 pub mod ClassValues
@@ -13,4 +6,3 @@ pub mod ClassProperties
 pub mod ClassMembers
 pub mod ClassFile
 pub mod ClassReading
-pub mod ClassTokens

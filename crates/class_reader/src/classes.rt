@@ -4,14 +4,12 @@ ghost use Rattle.std.specs.Prelude.{◌≡◌, ◌∷◌, [], nat_le, false, len
 ghost use Rattle.text_reading.specs.Parsing.{Reads};
 ghost use Rattle.class_reader.specs.ClassFile as spec;
 
-use crate::cursor::Cursor;
-use crate::error::{ClassStop, ClassWhy};
 use crate::keys::Section;
 use crate::keywords::keywords;
 use crate::members::{index, method, parameter, storage};
 use crate::names::{class_name, own_name, package_of, whole_name};
 use crate::properties::{opens, property, relation};
-use crate::token::{Kind, is_member_word};
+use class_tokens::{ClassStop, ClassWhy, Cursor, Kind, is_member_word};
 use obj_kinds::{ClassName, Text};
 use schema_kinds::{ClassNames, ClassTree, ClassTrees, Indexes, Methods, PropTrees};
 use sqlite_items::Items;

@@ -4,12 +4,10 @@ ghost use Rattle.std.specs.Prelude.{◌≡◌, false};
 ghost use Rattle.text_reading.specs.Parsing.{Reads};
 ghost use Rattle.class_reader.specs.ClassKeywords as spec;
 
-use crate::cursor::Cursor;
-use crate::error::{ClassStop, ClassWhy};
 use crate::keys::{Given, Section, is_left_out, noted, nothing_given, rule_of};
 use crate::names::MAX_NAME;
-use crate::token::{Kind, is_word};
 use crate::values::given_value;
+use class_tokens::{ClassStop, ClassWhy, Cursor, Kind, is_word};
 use obj_kinds::Text;
 use std::alloc::Global;
 

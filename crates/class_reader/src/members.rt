@@ -5,14 +5,12 @@ ghost use Rattle.text_reading.specs.Parsing.{Reads};
 ghost use Rattle.class_reader.specs.ClassNames as names;
 ghost use Rattle.class_reader.specs.ClassMembers as spec;
 
-use crate::cursor::Cursor;
-use crate::error::{ClassStop, ClassWhy};
 use crate::keys::{Rule, Section};
 use crate::keywords::keywords;
 use crate::names::{class_name, fresh, name};
 use crate::properties::opens;
-use crate::token::{Kind, is_block, is_name};
 use crate::values::{block, literal, value};
+use class_tokens::{ClassStop, ClassWhy, Cursor, Kind, is_block, is_name};
 use obj_kinds::{NoMemory, Text};
 use schema_kinds::{Arg, ArgDecls, Index, Indexes, Method, Methods, Texts};
 use sqlite_items::Items;

@@ -3,12 +3,9 @@
 ghost use Rattle.std.specs.Prelude.{◌≡◌, ◌≤◌, false, [], length, IfOk};
 ghost use Rattle.text_reading.specs.Parsing.{Reads};
 ghost use Rattle.class_reader.specs.ClassNames as spec;
-ghost use Rattle.class_reader.specs.ClassSteps.{many};
+ghost use Rattle.class_tokens.specs.ClassSteps.{many};
 
-use crate::chars::byte;
-use crate::cursor::Cursor;
-use crate::error::{ClassStop, ClassWhy};
-use crate::token::{Kind, is_name, is_own_word, is_word};
+use class_tokens::{ClassStop, ClassWhy, Cursor, Kind, byte, is_name, is_own_word, is_word};
 use obj_kinds::{ClassName, NoMemory, Text};
 use std::alloc::Global;
 

@@ -5,13 +5,11 @@ ghost use Rattle.text_reading.specs.Parsing.{Reads};
 ghost use Rattle.class_reader.specs.ClassNames as names;
 ghost use Rattle.class_reader.specs.ClassProperties as spec;
 
-use crate::cursor::Cursor;
-use crate::error::{ClassStop, ClassWhy};
 use crate::keys::{Bounds, Given, Section, no_bounds};
 use crate::keywords::keywords;
 use crate::names::{class_name, fresh, name_rest, whole_name};
-use crate::token::Kind;
 use crate::values::bounds;
+use class_tokens::{ClassStop, ClassWhy, Cursor, Kind};
 use obj_kinds::{ClassName, NoMemory, Text};
 use schema_kinds::{Form, PropTree, PropTrees};
 use std::alloc::Global;

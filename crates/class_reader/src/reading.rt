@@ -2,14 +2,14 @@
 
 ghost use Rattle.std.specs.Prelude.{◌≡◌, ◌+◌, ◌<◌, ◌^◌, false, length};
 ghost use Rattle.text_reading.specs.Reading.{Gives, whole};
-ghost use Rattle.class_reader.specs.ClassLex.{file_tokens};
-ghost use Rattle.class_reader.specs.ClassSteps.{tongue};
+ghost use Rattle.class_tokens.specs.ClassLex.{file_tokens};
+ghost use Rattle.class_tokens.specs.ClassSteps.{tongue};
 ghost use Rattle.class_reader.specs.ClassFile as file;
 ghost use Rattle.class_reader.specs.ClassReading.{IsRead};
 
 use crate::classes::classes;
-use crate::cursor::Cursor;
-use crate::error::{ClassStop, ReadError};
+use crate::error::ReadError;
+use class_tokens::{ClassStop, Cursor};
 use schema_kinds::ClassTrees;
 use std::alloc::Global;
 use text_reading::{Marks, Stop, place_at};

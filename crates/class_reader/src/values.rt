@@ -4,14 +4,13 @@ ghost use Rattle.std.specs.Prelude.{◌≡◌, false, true, length, IfOk};
 ghost use Rattle.text_reading.specs.Parsing.{Reads};
 ghost use Rattle.class_reader.specs.ClassValues as spec;
 
-use crate::chars::byte;
-use crate::cursor::Cursor;
-use crate::error::{ClassStop, ClassWhy};
 use crate::keys::{
     Bounds, Rule, bars_block, bars_word, bound, is_left_out_bound, is_only, no_bounds,
 };
 use crate::names::{MAX_CLASS_NAME, MAX_NAME, name_rest};
-use crate::token::{Kind, is_block, is_number, is_text, is_word};
+use class_tokens::{
+    ClassStop, ClassWhy, Cursor, Kind, byte, is_block, is_number, is_text, is_word,
+};
 use obj_kinds::{NoMemory, Text};
 use std::alloc::Global;
 

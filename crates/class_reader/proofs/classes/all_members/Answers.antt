@@ -1,8 +1,8 @@
 use Rattle.std.proofs.Common.{◌≡◌, ◌∙◌, true, false}
 use Rattle.std.proofs.lemmas.Result.{err_from_is_err_and}
 use Rattle.text_reading.proofs.Loops.{ended, fails, turned}
-use Rattle.class_reader.specs.ClassSteps.{tongue, head_kind}
-use Rattle.class_reader.specs.ClassKinds.{is_member_word}
+use Rattle.class_tokens.specs.ClassSteps.{tongue, head_kind}
+use Rattle.class_tokens.specs.ClassKinds.{is_member_word}
 use Rattle.class_reader.specs.ClassFile.{members}
 use Rattle.class_reader.proofs.MemberLasting.{uses_member, end_no_member}
 use Rattle.class_reader.proofs.classes.all_members.Goals as goal

@@ -1,7 +1,7 @@
 use Rattle.std.proofs.Common.{◌≡◌, false, length}
 use Rattle.text_reading.proofs.Loops.{Turns}
-use Rattle.class_reader.specs.ClassSteps.{tongue, many}
-use Rattle.class_reader.specs.ClassKinds.{is_member_word}
+use Rattle.class_tokens.specs.ClassSteps.{tongue, many}
+use Rattle.class_tokens.specs.ClassKinds.{is_member_word}
 use Rattle.class_reader.specs.ClassFile.{no_members, member}
 use Rattle.class_reader.proofs.classes.all_members.Given as goal
 

@@ -2,7 +2,7 @@ use Rattle.std.proofs.Common.{◌≡◌, true, false}
 use Rattle.std.proofs.lemmas.Result.{err_from_is_err_and}
 use Rattle.text_reading.specs.Parsing.{sees}
 use Rattle.text_reading.proofs.Loops.{ended, fails, turned}
-use Rattle.class_reader.specs.ClassSteps.{tongue, head_kind}
+use Rattle.class_tokens.specs.ClassSteps.{tongue, head_kind}
 use Rattle.class_reader.specs.ClassValues.{is_comma}
 use Rattle.class_reader.specs.ClassMembers.{more_props}
 use Rattle.class_reader.proofs.Lasting.{uses_further_prop, end_no_comma}

@@ -1,6 +1,6 @@
 use Rattle.std.proofs.Common.{false, length}
 use Rattle.text_reading.proofs.Loops.{Turns}
-use Rattle.class_reader.specs.ClassSteps.{tongue, many}
+use Rattle.class_tokens.specs.ClassSteps.{tongue, many}
 use Rattle.class_reader.specs.ClassValues.{is_comma}
 use Rattle.class_reader.specs.ClassMembers.{further_prop}
 use Rattle.class_reader.proofs.members.more_props.Given as goal

@@ -1,6 +1,6 @@
 use Rattle.std.proofs.Common.{false, length}
 use Rattle.text_reading.proofs.Loops.{Turns}
-use Rattle.class_reader.specs.ClassSteps.{tongue, many}
+use Rattle.class_tokens.specs.ClassSteps.{tongue, many}
 use Rattle.class_reader.specs.ClassValues.{is_comma, further_bound}
 use Rattle.class_reader.proofs.values.more_bounds.Given as goal
 
