@@ -1,0 +1,12 @@
+use Rattle.std.proofs.Common.{false, length}
+use Rattle.text_reading.proofs.Loops.{Turns}
+use Rattle.class_tokens.specs.ClassSteps.{tongue, many}
+use Rattle.class_reader.specs.ClassValues.{is_comma}
+use Rattle.class_reader.specs.ClassMembers.{further_prop}
+use Rattle.class_reader.proofs.members.more_props.Given as goal
+
+abbrev pub invariant-turns : goal.invariant-turns
+invariant-turns l = Turns tongue is_comma (further_prop false) l.props l.cursor (many is_comma (further_prop false) l.initial.props l.initial.cursor)
+
+abbrev pub decreases-turns : goal.decreases-turns
+decreases-turns l = length l.cursor

@@ -1,0 +1,16 @@
+//! Why no classes are read.
+
+use class_tokens::ClassWhy;
+
+/// Why no classes are read.
+#[derive(Clone, Copy, Debug, PartialEq, Eq)]
+pub enum ReadError {
+    /// The text is no class file: the place, counted from 1 with columns in bytes, and the reason.
+    BadClass {
+        line: u32,
+        column: u32,
+        why: ClassWhy,
+    },
+    /// Memory ran out.
+    NoMemory,
+}

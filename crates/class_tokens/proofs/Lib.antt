@@ -1,0 +1,3 @@
+pub mod LexLemmas
+pub mod CursorLemmas
+pub mod TokenLaws

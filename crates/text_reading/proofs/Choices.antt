@@ -1,0 +1,227 @@
+-- A token that may stand there but for a limit, and a choice by the kind of the next token.
+use Rattle.std.proofs.Common.{◌≡◌, Bool, true, false, not, [], ◌∷◌, ◌++◌, Option, Some, None, Err, ◌⊎◌, inl, inr, refl, sym, ap, subst, ◌∙◌}
+use Rattle.text_reading.specs.declared.stop.Refusal.{Refusal}
+use Rattle.text_reading.specs.Tokens.{Tok, Toks, Tongue, head_kind}
+use Rattle.text_reading.specs.Parsing.{Parser, pick, either}
+use Rattle.text_reading.specs.Grammar.{Lang, Picked, Or}
+use Rattle.text_reading.proofs.Theory.{Right, Accepts, Refuses, Any, always, Begins, Joins, good, ok_fst, ok_snd, bool_cases, same_head, same_heads}
+
+abbrev no_limit : {A : Type 0} → Option A → Type 0
+no_limit o = o ≡ None
+
+option_cases : {A : Type 0} (o : Option A) → (o ≡ None) ⊎ ((a : A) × (o ≡ Some a))
+option_cases None = inl refl
+option_cases (Some a) = inr (a, refl)
+
+module _ {K W : Type 0} (T : Tongue K W) where
+  -- ---- one token
+
+  module _ (can : K → Bool) (limit : Tok K → Option (Refusal W)) (ends : can T.end ≡ false) where
+    pick_wide : (t : Tok K) (other : Toks K) → can t.kind ≡ true → pick T true can limit (t ∷ other) ≡ good t other
+    unfolding pick
+    pick_wide t other h = rw h refl
+
+    pick_good : (t : Tok K) (other : Toks K) → can t.kind ≡ true → limit t ≡ None → pick T false can limit (t ∷ other) ≡ good t other
+    unfolding pick
+    pick_good t other h l = rw (h, l) refl
+
+    pick_stopped : (t : Tok K) (other : Toks K) (r : Refusal W) → can t.kind ≡ true → limit t ≡ Some r → pick T false can limit (t ∷ other) ≡ Err r
+    unfolding pick
+    pick_stopped t other r h l = rw (h, l) refl
+
+    pick_gone : (wide : Bool) (ts : Toks K) → can (head_kind T ts) ≡ false → pick T wide can limit ts ≡ Err (T.refusal ts)
+    unfolding pick
+    pick_gone wide ts h = rw h refl
+
+    ended : can (head_kind T []) ≡ true → ⊥
+    ended h = let f = sym ends ∙ h in (cc)
+
+    pick_sound : (ts : Toks K) (x : Tok K) (rest : Toks K) → pick T false can limit ts ≡ good x rest → Accepts T (Picked false can limit) (pick T false can limit) (pick T true can limit) ts x rest
+    pick_sound [] x rest e = absurd (let f = sym (pick_gone false [] ends) ∙ e in (cc))
+    pick_sound (t ∷ ts) x rest e = elim (bool_cases (can t.kind)) [
+      | inr gone ↦ absurd (let f = sym (pick_gone false (t ∷ ts) gone) ∙ e in (cc))
+      | inl here ↦ elim (option_cases (limit t)) [
+        | inr some ↦ absurd (let f = sym (pick_stopped t ts some.0 here some.1) ∙ e in (cc))
+        | inl none ↦
+            let f = sym (pick_good t ts here none) ∙ e in
+            let is = ok_fst t x ts rest f in
+            record {
+              used = t ∷ [];
+              parts = ap (λ u. t ∷ u) (ok_snd t x ts rest f);
+              phrase = (ap (λ u. u ∷ []) is, subst (λ u. can u.kind ≡ true) is here, subst (λ u. limit u ≡ None) is none);
+              again = λ other _. pick_good t other here none ∙ ap (λ v. good v other) is;
+              wide = λ other _. pick_wide t other here ∙ ap (λ v. good v other) is;
+            }
+      ]
+    ]
+
+    abbrev Faults : Type 0
+    Faults = (t : Tok K) (ts : Toks K) (r : Refusal W) → can t.kind ≡ true → limit t ≡ Some r → T.IsFault (t ∷ ts) r
+
+    pick_refused : Faults → (a : Tok K) → can a.kind ≡ true → (ts : Toks K) (r : Refusal W) → pick T false can limit ts ≡ Err r → Refuses T (Picked true can limit) (pick T false can limit) (pick T true can limit) ts r
+    pick_refused faults a some [] r e =
+        let f = sym (pick_gone false [] ends) ∙ e in
+        let is : T.refusal [] ≡ r = cc in
+        record {
+          used = [];
+          rest = [];
+          parts = refl;
+          more = a ∷ [];
+          value = a;
+          viable = (refl, some);
+          stuck = λ t after other none. absurd (cc);
+          reason = inl (record { is = sym is; stuck = λ t after other none. absurd (cc) });
+        }
+    pick_refused faults a some (t ∷ ts) r e = elim (bool_cases (can t.kind)) [
+      | inr gone ↦
+          let f = sym (pick_gone false (t ∷ ts) gone) ∙ e in
+          let is : T.refusal (t ∷ ts) ≡ r = cc in
+          let same : (u : Tok K) (after : Toks K) → t ∷ ts ≡ u ∷ after → can u.kind ≡ false = λ u after heads. ap (λ us. can (head_kind T us)) (sym heads) ∙ gone in
+          record {
+            used = [];
+            rest = t ∷ ts;
+            parts = refl;
+            more = a ∷ [];
+            value = a;
+            viable = (refl, some);
+            stuck = λ u after other heads. (T.refusal (u ∷ other), pick_gone false (u ∷ other) (same u after heads));
+            reason = inl (record { is = sym is; stuck = λ u after other heads. (T.refusal (u ∷ other), pick_gone true (u ∷ other) (same u after heads)) });
+          }
+      | inl here ↦ elim (option_cases (limit t)) [
+        | inl none ↦ absurd (let f = sym (pick_good t ts here none) ∙ e in (cc))
+        | inr stop ↦
+            let f = sym (pick_stopped t ts stop.0 here stop.1) ∙ e in
+            let is : stop.0 ≡ r = cc in
+            let first : (u : Tok K) (after : Toks K) → t ∷ ts ≡ u ∷ after → t ≡ u = λ u after heads. cc in
+            record {
+              used = [];
+              rest = t ∷ ts;
+              parts = refl;
+              more = a ∷ [];
+              value = a;
+              viable = (refl, some);
+              stuck = λ u after other heads. (stop.0, subst (λ v. pick T false can limit (v ∷ other) ≡ Err stop.0) (first u after heads) (pick_stopped t other stop.0 here stop.1));
+              reason = inr (record { is = subst (λ s. T.IsFault (t ∷ ts) s) is (faults t ts stop.0 here stop.1); token = t; after = ts; begins = refl; more = []; value = t; goes-on = (refl, here) });
+            }
+      ]
+    ]
+
+    -- a token that passes no limit; some token is of such a kind, and each limit is a fault
+    pub right_pick : Faults → (a : Tok K) → can a.kind ≡ true → Right T Any (Picked false can limit) (Picked true can limit) always (pick T false can limit) (pick T true can limit)
+    right_pick faults a some = record {
+      sound = λ ts x rest _ e. pick_sound ts x rest e;
+      narrow = record { all = λ used rest x _ l _. ap (λ u. pick T false can limit (u ++ rest)) l.0 ∙ pick_good x rest l.1 l.2 };
+      wide = record { all = λ used rest x _ l _. ap (λ u. pick T true can limit (u ++ rest)) l.0 ∙ pick_wide x rest l.1 };
+      refused = λ ts r _ e. pick_refused faults a some ts r e;
+      within = λ ts x l. (l.0, l.1);
+    }
+
+  -- ---- the one or the other
+
+  goes_one : {A : Type 0} (goes : K → Bool) (p q : Parser K W A) (ts : Toks K) → goes (head_kind T ts) ≡ true → either T goes p q ts ≡ p ts
+  unfolding either
+  goes_one goes p q ts h = rw h refl
+
+  goes_other : {A : Type 0} (goes : K → Bool) (p q : Parser K W A) (ts : Toks K) → goes (head_kind T ts) ≡ false → either T goes p q ts ≡ q ts
+  unfolding either
+  goes_other goes p q ts h = rw h refl
+
+  abbrev pub gone : (K → Bool) → K → Bool
+  gone goes h = not (goes h)
+
+  gone_false : (goes : K → Bool) (h : K) → gone goes h ≡ true → goes h ≡ false
+  gone_false goes h e = elim (bool_cases (goes h)) [ inl here ↦ absurd (let f = rw here at e in (cc)) | inr is ↦ is ]
+
+  module _ {A : Type 0} {goes : K → Bool} {P PV Q QV : Lang K A} {S : K → Bool} {p pV q qV : Parser K W A}
+      (rp : Right T (λ h. goes h ≡ true) P PV S p pV) (rq : Right T (λ h. goes h ≡ false) Q QV S q qV)
+      (begins : Begins PV (λ h. goes h ≡ true)) (joins : Joins T QV S (gone goes)) where
+    -- what goes on with the same first token chooses the same
+    head_goes : (ts used rest : Toks K) → ts ≡ used ++ rest → (b : Bool) → goes (head_kind T ts) ≡ b → (t : Tok K) (after other : Toks K) → rest ≡ t ∷ after → goes (head_kind T (used ++ t ∷ other)) ≡ b
+    head_goes ts used rest parts b here t after other is =
+        ap goes (sym (same_head T used t after other) ∙ ap (λ u. head_kind T (used ++ u)) (sym is) ∙ ap (head_kind T) (sym parts)) ∙ here
+
+    one_goes : (used other : Toks K) (x : A) → PV used x → goes (head_kind T (used ++ other)) ≡ true
+    one_goes used other x l = let b = begins used x l in ap (λ u. goes (head_kind T (u ++ other))) b.2 ∙ b.3
+
+    other_goes : (used rest : Toks K) (x : A) → QV used x → S (head_kind T rest) ≡ true → goes (head_kind T (used ++ rest)) ≡ false
+    other_goes used rest x l s = gone_false goes (head_kind T (used ++ rest)) (joins used rest x l s)
+
+    sound_either : (ts : Toks K) (x : A) (rest : Toks K) → either T goes p q ts ≡ good x rest → Accepts T (Or P Q) (either T goes p q) (either T goes pV qV) ts x rest
+    sound_either ts x rest e = elim (bool_cases (goes (head_kind T ts))) [
+      | inl here ↦
+          let one = rp.sound ts x rest here (sym (goes_one goes p q ts here) ∙ e) in
+          let go = λ (other : Toks K). one_goes one.used other x (rp.within one.used x one.phrase) in
+          record {
+            used = one.used;
+            parts = one.parts;
+            phrase = inl one.phrase;
+            again = λ other h. goes_one goes p q (one.used ++ other) (go other) ∙ one.again other h;
+            wide = λ other h. goes_one goes pV qV (one.used ++ other) (go other) ∙ one.wide other h;
+          }
+      | inr away ↦
+          let two = rq.sound ts x rest away (sym (goes_other goes p q ts away) ∙ e) in
+          let go : (other : Toks K) → head_kind T other ≡ head_kind T rest → goes (head_kind T (two.used ++ other)) ≡ false =
+          λ other h. ap goes (same_heads T two.used other rest h ∙ ap (head_kind T) (sym two.parts)) ∙ away in
+          record {
+            used = two.used;
+            parts = two.parts;
+            phrase = inr two.phrase;
+            again = λ other h. goes_other goes p q (two.used ++ other) (go other h) ∙ two.again other h;
+            wide = λ other h. goes_other goes pV qV (two.used ++ other) (go other h) ∙ two.wide other h;
+          }
+    ]
+
+    refused_either : (ts : Toks K) (r : Refusal W) → either T goes p q ts ≡ Err r → Refuses T (Or PV QV) (either T goes p q) (either T goes pV qV) ts r
+    refused_either ts r e = elim (bool_cases (goes (head_kind T ts))) [
+      | inl here ↦
+          let one = rp.refused ts r here (sym (goes_one goes p q ts here) ∙ e) in
+          let go = head_goes ts one.used one.rest one.parts true here in
+          record {
+            used = one.used;
+            rest = one.rest;
+            parts = one.parts;
+            more = one.more;
+            value = one.value;
+            viable = inl one.viable;
+            stuck = λ t after other is. let s = one.stuck t after other is in (s.0, goes_one goes p q (one.used ++ t ∷ other) (go t after other is) ∙ s.1);
+            reason = elim one.reason [
+              | inl l ↦ inl (record { is = l.is; stuck = λ t after other is. let s = l.stuck t after other is in (s.0, goes_one goes pV qV (one.used ++ t ∷ other) (go t after other is) ∙ s.1) })
+              | inr l ↦ inr (record { is = l.is; token = l.token; after = l.after; begins = l.begins; more = l.more; value = l.value; goes-on = inl l.goes-on })
+            ];
+          }
+      | inr away ↦
+          let two = rq.refused ts r away (sym (goes_other goes p q ts away) ∙ e) in
+          let go = head_goes ts two.used two.rest two.parts false away in
+          record {
+            used = two.used;
+            rest = two.rest;
+            parts = two.parts;
+            more = two.more;
+            value = two.value;
+            viable = inr two.viable;
+            stuck = λ t after other is. let s = two.stuck t after other is in (s.0, goes_other goes p q (two.used ++ t ∷ other) (go t after other is) ∙ s.1);
+            reason = elim two.reason [
+              | inl l ↦ inl (record { is = l.is; stuck = λ t after other is. let s = l.stuck t after other is in (s.0, goes_other goes pV qV (two.used ++ t ∷ other) (go t after other is) ∙ s.1) })
+              | inr l ↦ inr (record { is = l.is; token = l.token; after = l.after; begins = l.begins; more = l.more; value = l.value; goes-on = inr l.goes-on })
+            ];
+          }
+    ]
+
+    pub right_either : Right T Any (Or P Q) (Or PV QV) S (either T goes p q) (either T goes pV qV)
+    right_either = record {
+      sound = λ ts x rest _ e. sound_either ts x rest e;
+      narrow = record {
+        all = λ used rest x _ l s. elim l [
+          | inl one ↦ let here = one_goes used rest x (rp.within used x one) in goes_one goes p q (used ++ rest) here ∙ rp.narrow.all used rest x here one s
+          | inr two ↦ let away = other_goes used rest x (rq.within used x two) s in goes_other goes p q (used ++ rest) away ∙ rq.narrow.all used rest x away two s
+        ];
+      };
+      wide = record {
+        all = λ used rest x _ l s. elim l [
+          | inl one ↦ let here = one_goes used rest x one in goes_one goes pV qV (used ++ rest) here ∙ rp.wide.all used rest x here one s
+          | inr two ↦ let away = other_goes used rest x two s in goes_other goes pV qV (used ++ rest) away ∙ rq.wide.all used rest x away two s
+        ];
+      };
+      refused = λ ts r _ e. refused_either ts r e;
+      within = λ ts x l. elim l [ inl one ↦ inl (rp.within ts x one) | inr two ↦ inr (rq.within ts x two) ];
+    }

@@ -1,0 +1,7 @@
+pub mod Theory
+pub mod Loops
+pub mod Optionals
+pub mod Lengths
+pub mod Choices
+pub mod ReadingLaws
+pub mod PlaceLemmas

@@ -1,0 +1,53 @@
+-- Grammars: which tokens are a phrase, and what the phrase says.
+use Rattle.std.specs.Prelude.{Option, Some, None, ◌⊎◌, ◌≡◌, Bool, true, false, [], ◌∷◌, ◌++◌}
+use Rattle.text_reading.specs.declared.stop.Refusal.{Refusal}
+use Rattle.text_reading.specs.Tokens.{Bytes, Tok, Toks, Tongue, head_kind}
+
+abbrev pub Lang : Type 0 → Type 0 → Type 1
+Lang K A = Toks K → A → Type 0
+
+-- no tokens
+abbrev pub Empty : {K A : Type 0} → A → Lang K A
+Empty a ts x = (ts ≡ []) × (x ≡ a)
+
+-- nothing is such a phrase
+abbrev pub Nothing : {K A : Type 0} → Lang K A
+Nothing ts x = ⊥
+
+-- one token of this kind, which says its bytes
+abbrev pub Token : {K : Type 0} → K → Lang K Bytes
+Token {K} kind ts x = (t : Tok K) × (ts ≡ t ∷ []) × (t.kind ≡ kind) × (x ≡ t.text)
+
+-- one token of the kind, which says nothing
+abbrev pub Mark : {K : Type 0} → K → Lang K (Unit {0})
+Mark {K} kind ts x = (t : Tok K) × (ts ≡ t ∷ []) × (t.kind ≡ kind)
+
+-- one token of such a kind, which says itself; it passes no limit, if limits count
+abbrev pub Picked : {K W : Type 0} → Bool → (K → Bool) → (Tok K → Option (Refusal W)) → Lang K (Tok K)
+Picked true can limit ts t = (ts ≡ t ∷ []) × (can t.kind ≡ true)
+Picked false can limit ts t = (ts ≡ t ∷ []) × (can t.kind ≡ true) × (limit t ≡ None)
+
+-- a phrase of the one or of the other
+abbrev pub Or : {K A : Type 0} → Lang K A → Lang K A → Lang K A
+Or P Q ts x = P ts x ⊎ Q ts x
+
+-- one phrase, and then one that may depend on what it says
+abbrev pub Then : {K A B : Type 0} → Lang K A → (A → Lang K B) → Lang K B
+Then {K} {A} P Q ts y = (front : Toks K) × (back : Toks K) × (x : A) × (ts ≡ front ++ back) × P front x × Q x back y
+
+-- what a phrase says, seen by f
+abbrev pub Says : {K A B : Type 0} → (A → B) → Lang K A → Lang K B
+Says f P = Then P (λ x. Empty (f x))
+
+-- a phrase by the kind of its first token
+abbrev pub First : {K W A : Type 0} → Tongue K W → (K → Lang K A) → Lang K A
+First T By ts x = By (head_kind T ts) ts x
+
+-- any number of phrases, one after the other, each of which changes what was said before
+pub data Many {K A : Type 0} (Step : A → Lang K A) : A → Toks K → A → Type 0 where
+  Done : {a : A} → Many Step a [] a
+  Next : {a b c : A} {ts us : Toks K} → Step a ts b → Many Step b us c → Many Step a (ts ++ us) c
+
+-- a phrase or nothing
+abbrev pub Optional : {K A : Type 0} → Lang K A → Lang K (Option A)
+Optional P ts o = ((ts ≡ []) × (o ≡ None)) ⊎ Says Some P ts o
