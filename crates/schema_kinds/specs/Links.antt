@@ -72,6 +72,10 @@ pub record AreAllAbove (links : List (List ℕ)) (n : ℕ) (above : List (List B
   pub as_many : length above ≡ n
   pub each : (i : ℕ) → i < n → AreAbove links i (get_or above i [])
 
+-- how many places are at or above one
+abbrev pub rank : List (List Bool) → ℕ → ℕ
+rank above a = marked (get_or above a [])
+
 -- some way of k steps leads up from a
 abbrev pub climbs : ℕ → List (List ℕ) → ℕ → Bool
 climbs zero links a = true

@@ -1,9 +1,9 @@
 ghost use Rattle.std.specs.Prelude.{◌≡◌, [], ◌∷◌, ◌++◌, ◌<◌, ◌≤◌, length, get_or, IfOk, OnOk, map, option_to_list, Option, Some, None, IsTrue, ◌↔◌};
-ghost use Rattle.schema_kinds.specs.Links.{IsWithin, AreWithin, AreAbove, IsAtOrBelow, mark_at, AreAllAbove};
+ghost use Rattle.schema_kinds.specs.Links.{IsWithin, AreWithin, AreAbove, IsAtOrBelow, mark_at, AreAllAbove, rank};
 ghost use Rattle.schema_kinds.specs.Hierarchy.{is_system, place_of, later_places, super_places, first_place, names_of, links_of, firsts_of, top, IsHierarchyOf};
 
 use crate::class::ClassNames;
-use crate::links::{Links, Marks, is_marked, marks_above};
+use crate::links::{Links, Marks, count_marked, is_marked, marks_above};
 use crate::names::NameTable;
 use obj_kinds::{ClassName, NoMemory};
 use sqlite_items::Items;
@@ -163,6 +163,16 @@ impl Hierarchy {
         match self.above.get(below) {
             Some(marks) => is_marked(marks.as_slice(), above),
             None => false,
+        }
+    }
+
+    /// How many classes are at or above the class at this place.
+    pub fn rank(&self, place: usize) -> usize
+        ensures { result ≡ rank self.now.above place }
+    {
+        match self.above.get(place) {
+            Some(marks) => count_marked(marks.as_slice()),
+            None => 0,
         }
     }
 

@@ -1,5 +1,5 @@
 ghost use Rattle.std.specs.Prelude.{◌≡◌, ℕ, ◌+◌, ◌<◌, ◌≤◌, ◌^◌, length, replicate, slice_set, IfOk, IsTrue, true, false};
-ghost use Rattle.schema_kinds.specs.Links.{AreWithin, IsWithin, AreAbove, mark_at, mark_all, mark_all_if, pass_on, unmarked};
+ghost use Rattle.schema_kinds.specs.Links.{AreWithin, IsWithin, AreAbove, mark_at, mark_all, mark_all_if, pass_on, marked, unmarked};
 
 use obj_kinds::NoMemory;
 use sqlite_items::Items;
@@ -39,6 +39,20 @@ fn count_unmarked(marks: &[bool]) -> usize
         Some((mark, rest)) => {
             let count = count_unmarked(rest);
             if *mark { count } else { count + 1 }
+        }
+    }
+}
+
+/// How many places are marked.
+pub fn count_marked(marks: &[bool]) -> usize
+    ensures value { result ≡ marked marks.now }
+    ensures bound { result ≤ length marks.now }
+{
+    match marks.split_first() {
+        None => 0,
+        Some((mark, rest)) => {
+            let count = count_marked(rest);
+            if *mark { count + 1 } else { count }
         }
     }
 }
