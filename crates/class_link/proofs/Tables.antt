@@ -1,5 +1,5 @@
 -- Tables of spots, and the loops that fill them.
-use Rattle.std.proofs.Common.{◌≡◌, ℕ, zero, suc, ◌+◌, ◌<◌, Bool, true, false, cond, List, [], ◌∷◌, ◌++◌, take, fold, length, slice_get, Option, Some, None, is_some, option_to_list, refl, sym, ap, ◌∙◌, arith}
+use Rattle.std.proofs.Common.{◌≡◌, ◌≢◌, ℕ, zero, suc, ◌+◌, ◌<◌, Bool, true, false, cond, List, [], ◌∷◌, ◌++◌, take, fold, length, slice_get, slice_set, Option, Some, None, is_some, option_to_list, refl, sym, ap, ◌∙◌, arith}
 use Rattle.std.specs.Map.{lookup}
 use Rattle.indexmap.specs.IndexMap.{insert_entry}
 use Rattle.schema_kinds.specs.Hierarchy.{same_text}
@@ -28,3 +28,29 @@ fold-more f b (y ∷ xs) (suc i) = fold-more f (f b y) xs i
 
 pub fold-turn : {A B : Type 0} (f : B → A → B) (b : B) (xs : List A) (i : ℕ) → fold f (fold f b (take i xs)) (option_to_list (slice_get xs i)) ≡ fold f b (take (i + 1) xs)
 fold-turn f b xs i = let e : suc i ≡ i + 1 = omega arith in fold-more f b xs i ∙ ap (λ n. fold f b (take n xs)) e
+
+take-more : {A : Type 0} (xs : List A) (i : ℕ) → take i xs ++ option_to_list (slice_get xs i) ≡ take (suc i) xs
+take-more [] zero = refl
+take-more [] (suc i) = refl
+take-more (y ∷ xs) zero = refl
+take-more (y ∷ xs) (suc i) = ap (λ l. y ∷ l) (take-more xs i)
+
+pub take-turn : {A : Type 0} (xs : List A) (i : ℕ) → take i xs ++ option_to_list (slice_get xs i) ≡ take (i + 1) xs
+take-turn xs i = let e : suc i ≡ i + 1 = omega arith in take-more xs i ∙ ap (λ n. take n xs) e
+
+pub get-set : {A : Type 0} (xs : List A) (i : ℕ) (v : A) → i < length xs → slice_get (slice_set xs i v) i ≡ Some v
+get-set [] i v h = absurd (omega arith)
+get-set (x ∷ xs) zero v h = refl
+get-set (x ∷ xs) (suc i) v h = get-set xs i v (omega arith)
+
+pub get-set_other : {A : Type 0} (xs : List A) (i j : ℕ) (v : A) → i ≢ j → slice_get (slice_set xs i v) j ≡ slice_get xs j
+get-set_other [] i j v h = refl
+get-set_other (x ∷ xs) zero zero v h = absurd (h refl)
+get-set_other (x ∷ xs) zero (suc j) v h = refl
+get-set_other (x ∷ xs) (suc i) zero v h = refl
+get-set_other (x ∷ xs) (suc i) (suc j) v h = get-set_other xs i j v (λ e. h (ap suc e))
+
+pub length-set : {A : Type 0} (xs : List A) (i : ℕ) (v : A) → length (slice_set xs i v) ≡ length xs
+length-set [] i v = refl
+length-set (x ∷ xs) zero v = refl
+length-set (x ∷ xs) (suc i) v = ap suc (length-set xs i v)

@@ -1,3 +1,5 @@
 pub mod Spots
 pub mod Trees
 pub mod Meaning
+pub mod Gathered
+pub mod Reasons

@@ -102,9 +102,12 @@ prop_at trees spot = option_and_then (λ tree. slice_get tree.props spot.place) 
 abbrev pub index_at : List ClassTree → Spot → Option Index
 index_at trees spot = option_and_then (λ tree. slice_get tree.indexes spot.place) (slice_get trees spot.class)
 
+abbrev pub spots_in : List (List ℕ × Spot) → List Spot
+spots_in pairs = map (λ e. e.1) pairs
+
 -- the properties and the indexes of a class, the inherited ones first
 abbrev pub props_of : List ClassTree → ℕ → List PropTree
-props_of trees i = filter_map (λ e. prop_at trees e.1) (members_of trees i).props
+props_of trees i = filter_map (prop_at trees) (spots_in (members_of trees i).props)
 
 abbrev pub indexes_of : List ClassTree → ℕ → List Index
-indexes_of trees i = filter_map (λ e. index_at trees e.1) (members_of trees i).indexes
+indexes_of trees i = filter_map (index_at trees) (spots_in (members_of trees i).indexes)

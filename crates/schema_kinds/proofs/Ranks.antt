@@ -75,7 +75,7 @@ not-true true h = absurd (h refl)
 not-true false h = refl
 
 module _ (links : List (List ℕ)) (above : List (List Bool)) (tables : AreAllAbove links (length links) above) (within : AreWithin links (length links)) where
-  within-IsIn : (a s : ℕ) → IsIn s (row links a) → s < length links
+  pub within-IsIn : (a s : ℕ) → IsIn s (row links a) → s < length links
   within-IsIn a s into = IsWithin-IsIn (row links a) (length links) s (AreWithin-row links (length links) a within) into
 
   -- one step up leaves fewer above
