@@ -9,7 +9,7 @@ use Rattle.schema_kinds.proofs.Hierarchies.{links-within, length-map}
 use Rattle.class_link.specs.declared.members.Members.{Members}
 use Rattle.class_link.specs.Trees.{header_of, headers_of, super_links, members_with, members_up, members_of}
 use Rattle.class_link.specs.Gathered.{AreGathered, AreGatheredTo}
-use Rattle.class_link.proofs.Tables.{get-set, get-set_other, length-set}
+use Rattle.class_link.proofs.SpotLists.{get-set, get-set_other, length-set}
 
 map-same : {B : Type 0} (f g : ℕ → B) (xs : List ℕ) → ((s : ℕ) → IsIn s xs → f s ≡ g s) → map f xs ≡ map g xs
 map-same f g [] h = refl

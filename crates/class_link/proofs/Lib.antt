@@ -1,2 +1,2 @@
-pub mod Tables
+pub mod SpotLists
 pub mod Gathering

@@ -2,4 +2,5 @@ pub mod Spots
 pub mod Trees
 pub mod Meaning
 pub mod Gathered
+pub mod Facts
 pub mod Reasons

@@ -6,9 +6,11 @@ mod error;
 mod members;
 mod props;
 mod spots;
+mod tables;
 
 pub use entry::Entry;
 pub use error::{LinkError, LinkWhy};
 pub use members::{Members, gather_all};
-pub use props::{any_unknown_type, index_at_spot, prop_at_spot};
+pub use props::{has_unknown_class, index_at_spot, is_same_kind, prop_at_spot};
+pub use tables::Tables;
 pub use spots::{Spot, SpotTable};

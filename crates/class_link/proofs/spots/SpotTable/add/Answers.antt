@@ -1,6 +1,6 @@
 use Rattle.std.proofs.Common.{◌≡◌, ap, sym, ◌∙◌}
 use Rattle.class_link.specs.Spots.{put_spot, add_spot}
-use Rattle.class_link.proofs.Tables.{put-new}
+use Rattle.class_link.proofs.SpotLists.{put-new}
 use Rattle.class_link.proofs.spots.SpotTable.add.Goals as goal
 
 pub returns-in_ok-put-in-None : goal.returns-in_ok-put-in-None

@@ -1,6 +1,6 @@
 use Rattle.std.proofs.Common.{◌≡◌, ap, take, option_to_list, slice_get, ◌∙◌}
 use Rattle.class_link.specs.Spots.{add_spot, add_spots}
-use Rattle.class_link.proofs.Tables.{fold-turn}
+use Rattle.class_link.proofs.SpotLists.{fold-turn}
 use Rattle.class_link.proofs.spots.SpotTable.add_all.Goals as goal
 
 pub loop-place-preserved : goal.loop-place-preserved

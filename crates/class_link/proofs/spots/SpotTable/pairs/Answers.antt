@@ -1,5 +1,5 @@
 use Rattle.std.proofs.Common.{◌≡◌, ◌++◌, ap, option_to_list, slice_get, ◌∙◌}
-use Rattle.class_link.proofs.Tables.{take-turn}
+use Rattle.class_link.proofs.SpotLists.{take-turn}
 use Rattle.class_link.proofs.spots.SpotTable.pairs.Goals as goal
 
 pub loop-place-preserved : goal.loop-place-preserved
