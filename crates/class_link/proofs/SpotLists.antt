@@ -1,9 +1,10 @@
 -- Tables of spots, and the loops that fill them.
-use Rattle.std.proofs.Common.{◌≡◌, ◌≢◌, ℕ, zero, suc, ◌+◌, ◌<◌, Bool, true, false, cond, List, [], ◌∷◌, ◌++◌, take, fold, length, slice_get, slice_set, Option, Some, None, is_some, option_to_list, refl, sym, ap, ◌∙◌, arith}
+use Rattle.std.proofs.Common.{◌≡◌, ◌≢◌, ℕ, zero, suc, ◌+◌, ◌<◌, Bool, true, false, cond, List, [], ◌∷◌, ◌++◌, take, fold, length, slice_get, slice_set, Option, Some, None, is_some, option_to_list, append-nil, refl, sym, ap, ◌∙◌, arith}
 use Rattle.std.specs.Map.{lookup}
 use Rattle.indexmap.specs.IndexMap.{insert_entry}
 use Rattle.schema_kinds.specs.Hierarchy.{same_text}
 use Rattle.class_link.specs.declared.spots.Spot.{Spot}
+use Rattle.class_link.specs.Trees.{spots_in}
 use Rattle.class_link.specs.Spots.{spot_of, add_spot, put_spot}
 
 -- a name that isn't there goes last
@@ -54,3 +55,12 @@ pub length-set : {A : Type 0} (xs : List A) (i : ℕ) (v : A) → length (slice_
 length-set [] i v = refl
 length-set (x ∷ xs) zero v = refl
 length-set (x ∷ xs) (suc i) v = ap suc (length-set xs i v)
+
+-- past the end there is no spot
+no-spot-at : (es : List (List ℕ × Spot)) (i : ℕ) → None ≡ slice_get es i → None ≡ slice_get (spots_in es) i
+no-spot-at [] i h = refl
+no-spot-at (e ∷ es) zero h = cc
+no-spot-at (e ∷ es) (suc i) h = no-spot-at es i h
+
+pub no-spot : (es : List (List ℕ × Spot)) (i : ℕ) (xs : List Spot) → None ≡ slice_get es i → xs ≡ xs ++ option_to_list (slice_get (spots_in es) i)
+no-spot es i xs h = sym (append-nil xs) ∙ ap (λ o. xs ++ option_to_list o) (no-spot-at es i h)

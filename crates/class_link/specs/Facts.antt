@@ -74,7 +74,7 @@ indexes_in f i = index_pairs (slice_get f.members i)
 
 -- some property of the class passes the test, an inherited one or its own
 abbrev pub any_prop : List ClassTree → List (List ℕ × Spot) → (PropTree → Bool) → Bool
-any_prop trees props test = list_any (λ e. option_any test (prop_at trees e.1)) props
+any_prop trees props test = list_any (λ s. option_any test (prop_at trees s)) (spots_in props)
 
 -- and some index
 abbrev pub any_index : List ClassTree → List (List ℕ × Spot) → (Index → Bool) → Bool

@@ -1,6 +1,10 @@
 pub mod Spots
 pub mod Trees
-pub mod Meaning
+pub mod Types
 pub mod Gathered
 pub mod Facts
 pub mod Reasons
+pub mod Extents
+pub mod Refusal
+pub mod Meaning
+pub mod Climbing

@@ -18,8 +18,8 @@ use Rattle.class_link.specs.declared.spots.Spot.{Spot}
 use Rattle.class_link.specs.declared.entry.Entry.{Entry}
 use Rattle.class_link.specs.declared.members.Members.{Members}
 use Rattle.class_link.specs.Spots.{spot_of}
-use Rattle.class_link.specs.Trees.{system_sort, supers_of, own_props, prop_at, index_at}
-use Rattle.class_link.specs.Meaning.{data_item}
+use Rattle.class_link.specs.Trees.{system_sort, supers_of, own_props, prop_at, index_at, spots_in}
+use Rattle.class_link.specs.Types.{data_item}
 use Rattle.class_link.specs.Facts.{Facts, count_from, sort_in, option_any, is_class_of, props_in, indexes_in, any_prop, any_index}
 
 -- RepeatedClass: an earlier class has the same name
@@ -128,7 +128,7 @@ abbrev pub part_of : Facts → PropTree → Option ℕ
 part_of f p = part_by f p.of p.form
 
 abbrev pub parts_in : List ClassTree → Facts → ℕ → List ℕ
-parts_in trees f i = filter_map (λ e. option_and_then (part_of f) (prop_at trees e.1)) (props_in f i)
+parts_in trees f i = filter_map (λ s. option_and_then (part_of f) (prop_at trees s)) (spots_in (props_in f i))
 
 abbrev pub part_links : List ClassTree → Facts → List (List ℕ)
 part_links trees f = map (parts_in trees f) (count_from 0 (length trees))

@@ -1,11 +1,16 @@
 //! Links the class trees of all class files to one schema, or says which class can't be linked, and why.
 #![tactic(auto)]
 
+mod checks;
+mod climbing;
+mod entries;
 mod entry;
 mod error;
 mod members;
+mod numbers;
 mod props;
 mod spots;
+mod subnodes;
 mod tables;
 
 pub use entry::Entry;

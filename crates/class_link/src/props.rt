@@ -3,7 +3,7 @@ ghost use Rattle.std.specs.Option.{option_copied};
 ghost use Rattle.std.specs.List.{list_any};
 ghost use Rattle.schema_kinds.specs.Hierarchy.{same_text};
 ghost use Rattle.class_link.specs.Trees.{prop_at, index_at};
-ghost use Rattle.class_link.specs.Meaning.{data_item};
+ghost use Rattle.class_link.specs.Types.{data_item};
 ghost use Rattle.class_link.specs.Facts.{seen, sort_in, option_any, is_class_of};
 ghost use Rattle.class_link.specs.Reasons.{is_unknown_type, is_whole_type, same_type, same_word, same_form, same_kind};
 
@@ -31,7 +31,8 @@ pub fn index_at_spot(trees: &[ClassTree], spot: Spot) -> Option<&Index>
     }
 }
 
-fn is_named(name: &ClassName, word: &[u8]) -> bool
+/// Whether a class has that name.
+pub fn is_named(name: &ClassName, word: &[u8]) -> bool
     ensures { result ≡ same_text name.now.0 word.now }
 {
     name.0.as_slice() == word

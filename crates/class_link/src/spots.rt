@@ -1,5 +1,6 @@
 ghost use Rattle.std.specs.Prelude.{◌≡◌, [], ◌∷◌, ◌++◌, ◌<◌, length, IfOk, OnOk, OnErr, slice_get, option_to_list};
 ghost use Rattle.std.specs.Option.{option_copied};
+ghost use Rattle.class_link.specs.Trees.{spots_in};
 ghost use Rattle.class_link.specs.Spots.{spot_of, add_spot, put_spot, add_spots};
 
 use indexmap::IndexMap;
@@ -117,5 +118,28 @@ impl SpotTable {
             self.copy_pair(alloc, place, &mut pairs)?;
         }
         Ok(pairs)
+    }
+
+    fn push_spot(&self, place: usize, spots: &mut Items<Spot>) -> Result<(), NoMemory>
+        ensures { OnOk result (spots.new ≡ spots.old ++ option_to_list (slice_get (spots_in self.now) place)) }
+    {
+        match self.spots.get_index(place) {
+            Some((_, spot)) => {
+                spots.push(*spot)?;
+                Ok(())
+            }
+            None => Ok(()),
+        }
+    }
+
+    /// All its spots, in order.
+    pub fn spots(&self, alloc: Global) -> Result<Items<Spot>, NoMemory>
+        ensures { IfOk result (λ spots. spots ≡ spots_in self.now) }
+    {
+        let mut spots = Items::new(alloc);
+        for place in 0..self.spots.len() {
+            self.push_spot(place, &mut spots)?;
+        }
+        Ok(spots)
     }
 }

@@ -32,7 +32,8 @@ pub struct Hierarchy {
     pub above: Items<Marks>,
 }
 
-fn begins_with_percent(name: &ClassName) -> bool
+/// Whether the name begins with `%`.
+pub fn begins_with_percent(name: &ClassName) -> bool
     ensures { result ≡ is_system name.now }
 {
     match name.0.as_slice().first() {

@@ -15,7 +15,7 @@ pub use class::{
     Class, ClassNames, Classes, Index, Indexes, Sort, Texts, copy_class_names, copy_indexes,
     copy_texts,
 };
-pub use hierarchy::{Header, Headers, Hierarchy, find_first};
+pub use hierarchy::{Header, Headers, Hierarchy, begins_with_percent, find_first};
 pub use kind::{Item, Kind};
 pub use links::{Links, Marks, is_marked, marks_above};
 pub use method::{Arg, ArgDecls, Method, Methods};
