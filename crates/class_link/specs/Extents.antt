@@ -46,9 +46,12 @@ alone_on props x = cond x.unique None (only_on props x.props)
 abbrev pub index_entry : List ClassTree → List (List ℕ × Spot) → Spot → Option Entry
 index_entry trees props s = option_map (λ x. record { is_side = false; spot = s; on = alone_on props x }) (index_at trees s)
 
--- what the objects of a class have entries of
+-- what the objects of a class with these members have entries of
+abbrev pub entries_with : List ClassTree → List (List ℕ × Spot) → List (List ℕ × Spot) → List Entry
+entries_with trees props indexes = filter_map (side_entry trees) (spots_in props) ++ filter_map (index_entry trees props) (spots_in indexes)
+
 abbrev pub entries_in : List ClassTree → Facts → ℕ → List Entry
-entries_in trees f i = filter_map (side_entry trees) (spots_in (props_in f i)) ++ filter_map (index_entry trees (props_in f i)) (spots_in (indexes_in f i))
+entries_in trees f i = entries_with trees (props_in f i) (indexes_in f i)
 
 abbrev pub same_spot : Spot → Spot → Bool
 same_spot a b = nat_eq a.class b.class && nat_eq a.place b.place
@@ -110,8 +113,8 @@ array_by p = cond (is_array p.form) (Some p.name) None
 abbrev pub array_at : List ClassTree → Spot → Option (List ℕ)
 array_at trees s = option_and_then array_by (prop_at trees s)
 
-abbrev pub subnodes : List ClassTree → Facts → ℕ → List (List ℕ)
-subnodes trees f i = filter_map (short_at trees) (chain (length trees) f.firsts i) ++ filter_map (array_at trees) (spots_in (props_in f i))
+abbrev pub subnodes : List ClassTree → Facts → ℕ → List (List ℕ × Spot) → List (List ℕ)
+subnodes trees f i props = filter_map (short_at trees) (chain (length trees) f.firsts i) ++ filter_map (array_at trees) (spots_in props)
 
 abbrev pub repeats : List (List ℕ) → List (List ℕ) → Bool
 repeats seen [] = false
@@ -126,9 +129,9 @@ abbrev pub extent_of : List ClassTree → Facts → ℕ → List Entry
 extent_of trees f i = entries_at trees f (slice_get f.tops i)
 
 -- NameClash: two indexes of one extent have one name, or two names of subnodes are equal
-abbrev pub has_name_clash : List ClassTree → Facts → ℕ → Bool
-has_name_clash trees f i =
-    is_persistent (sort_in f i) && (clash_in trees (entries_in trees f i) (extent_of trees f i) || repeats [] (subnodes trees f i))
+abbrev pub has_name_clash : List ClassTree → Facts → ℕ → List (List ℕ × Spot) → List (List ℕ × Spot) → Bool
+has_name_clash trees f i props indexes =
+    is_persistent (sort_in f i) && (clash_in trees (entries_with trees props indexes) (extent_of trees f i) || repeats [] (subnodes trees f i props))
 
 -- the declared indexes among the entries, each once
 abbrev pub add_distinct : List Spot → Entry → List Spot
@@ -147,9 +150,9 @@ long_tree tree = nat_lt 500 (length tree.methods) || list_any long_method tree.m
 abbrev pub long_index : Index → Bool
 long_index x = nat_lt 3 (length x.props)
 
-abbrev pub has_too_many : List ClassTree → Facts → ℕ → Bool
-has_too_many trees f i =
-    nat_eq i 500 || climbs 17 f.links i || nat_lt 200 (length (props_in f i))
+abbrev pub has_too_many : List ClassTree → Facts → ℕ → List (List ℕ × Spot) → List (List ℕ × Spot) → Bool
+has_too_many trees f i props indexes =
+    nat_eq i 500 || climbs 17 f.links i || nat_lt 200 (length props)
     || option_any long_tree (slice_get trees i)
-    || any_index trees (indexes_in f i) long_index
+    || any_index trees indexes long_index
     || (is_persistent (sort_in f i) && nat_lt 50 (length (declared_indexes (extent_of trees f i))))

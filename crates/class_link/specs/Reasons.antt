@@ -38,8 +38,8 @@ has_unknown names (s ∷ ss) = is_unknown names s || list_any (λ t. is_unknown 
 abbrev pub is_unknown_type : List (List ℕ) → PropTree → Bool
 is_unknown_type names p = is_none (data_item p.of) && is_none (place_of names p.of)
 
-abbrev pub has_unknown_type : List ClassTree → Facts → ℕ → Bool
-has_unknown_type trees f i = any_prop trees (props_in f i) (is_unknown_type f.names)
+abbrev pub has_unknown_type : List ClassTree → Facts → List (List ℕ × Spot) → Bool
+has_unknown_type trees f props = any_prop trees props (is_unknown_type f.names)
 
 -- KindClash: a superclass other than the first is persistent
 abbrev pub has_persistent : Facts → List ClassName → Bool
@@ -111,8 +111,8 @@ bad_form f sort of (Relation cardinality inverse) = not (is_persistent sort) || 
 abbrev pub bad_type : Facts → Sort → PropTree → Bool
 bad_type f sort p = bad_form f sort p.of p.form
 
-abbrev pub has_bad_type : List ClassTree → Facts → ℕ → Bool
-has_bad_type trees f i = any_prop trees (props_in f i) (bad_type f (sort_in f i))
+abbrev pub has_bad_type : List ClassTree → Facts → ℕ → List (List ℕ × Spot) → Bool
+has_bad_type trees f i props = any_prop trees props (bad_type f (sort_in f i))
 
 -- SerialRing: serial parts nest more than 4 deep, which is so where a serial class contains itself
 abbrev pub part_place : Facts → ClassName → Option ℕ
@@ -147,8 +147,8 @@ is_not_yet ListForm = false
 is_not_yet Array = false
 is_not_yet (Relation cardinality inverse) = is_word cardinality (codes "parent") || is_word cardinality (codes "children")
 
-abbrev pub has_not_yet : List ClassTree → Facts → ℕ → Bool
-has_not_yet trees f i = any_prop trees (props_in f i) (λ p. is_not_yet p.form)
+abbrev pub has_not_yet : List ClassTree → List (List ℕ × Spot) → Bool
+has_not_yet trees props = any_prop trees props (λ p. is_not_yet p.form)
 
 -- NoInverse: for a side that the class declares, the inverse isn't declared on the named class, or doesn't name
 -- this class and property back, or the two cardinalities aren't one and many
@@ -181,8 +181,8 @@ has_no_inverse trees f i = option_any (lacks_other_side trees f) (slice_get tree
 abbrev pub names_unknown : List (List ℕ × Spot) → Index → Bool
 names_unknown props x = list_any (λ n. is_none (spot_of n props)) x.props
 
-abbrev pub has_unknown_index_prop : List ClassTree → Facts → ℕ → Bool
-has_unknown_index_prop trees f i = any_index trees (indexes_in f i) (names_unknown (props_in f i))
+abbrev pub has_unknown_index_prop : List ClassTree → List (List ℕ × Spot) → List (List ℕ × Spot) → Bool
+has_unknown_index_prop trees props indexes = any_index trees indexes (names_unknown props)
 
 -- BadIndexProperty: an index names a serial part, a collection or a many side
 abbrev pub is_unindexed : Facts → ClassName → Form → Bool
@@ -194,8 +194,8 @@ is_unindexed f of (Relation cardinality inverse) = is_word cardinality (codes "m
 abbrev pub names_unindexed : List ClassTree → Facts → List (List ℕ × Spot) → Index → Bool
 names_unindexed trees f props x = list_any (λ n. option_any (λ p. is_unindexed f p.of p.form) (option_and_then (prop_at trees) (spot_of n props))) x.props
 
-abbrev pub has_bad_index_prop : List ClassTree → Facts → ℕ → Bool
-has_bad_index_prop trees f i = any_index trees (indexes_in f i) (names_unindexed trees f (props_in f i))
+abbrev pub has_bad_index_prop : List ClassTree → Facts → List (List ℕ × Spot) → List (List ℕ × Spot) → Bool
+has_bad_index_prop trees f props indexes = any_index trees indexes (names_unindexed trees f props)
 
 -- BadParameter: `MAXLEN`, `MINVAL` or `MAXVAL` isn't a whole number or empty, or `MAXLEN` is below 1
 abbrev pub skip_zeros : List ℕ → List ℕ
@@ -223,5 +223,5 @@ abbrev pub bad_parameter : PropTree → Bool
 bad_parameter p =
     option_any (λ t. is_no_number t || is_below_one t) p.max_len || option_any is_no_number p.min_val || option_any is_no_number p.max_val
 
-abbrev pub has_bad_parameter : List ClassTree → Facts → ℕ → Bool
-has_bad_parameter trees f i = any_prop trees (props_in f i) bad_parameter
+abbrev pub has_bad_parameter : List ClassTree → List (List ℕ × Spot) → Bool
+has_bad_parameter trees props = any_prop trees props bad_parameter

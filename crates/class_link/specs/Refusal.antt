@@ -2,29 +2,33 @@
 use Rattle.std.specs.Prelude.{◌≡◌, ℕ, ◌<◌, ◌≤◌, ◌⊎◌, Bool, false, List, [], ◌∷◌, length, find, Option, Some, slice_get, IsTrue}
 use Rattle.schema_kinds.specs.declared.tree.ClassTree.{ClassTree}
 use Rattle.schema_kinds.specs.Links.{IsInRing}
+use Rattle.class_link.specs.declared.spots.Spot.{Spot}
 use Rattle.class_link.specs.declared.error.LinkWhy.{LinkWhy}
 use Rattle.class_link.specs.declared.error.LinkWhy.TheVariants.{RepeatedClass, UnknownSuper, SuperRing, KindClash, UnknownType, BadType, SerialRing, NotYet, NoInverse, UnknownIndexProperty, BadIndexProperty, NameClash, BadParameter, TooMany}
 use Rattle.class_link.specs.Trees.{tree_names, super_links, supers_of}
-use Rattle.class_link.specs.Facts.{Facts, facts_of}
+use Rattle.class_link.specs.Facts.{Facts, facts_of, props_in, indexes_in}
 use Rattle.class_link.specs.Reasons.{is_repeated, has_unknown, has_unknown_type, has_kind_clash, has_bad_type, has_serial_ring, has_not_yet, has_no_inverse, has_unknown_index_prop, has_bad_index_prop, has_bad_parameter}
 use Rattle.class_link.specs.Extents.{has_name_clash, has_too_many}
 
--- the reasons that are tests; that a class is below itself is none
+-- the reasons that are tests, for a class with these members; that a class is below itself is none
+abbrev pub test_with : List ClassTree → Facts → ℕ → List (List ℕ × Spot) → List (List ℕ × Spot) → LinkWhy → Bool
+test_with trees f i props indexes RepeatedClass = is_repeated f.names i
+test_with trees f i props indexes UnknownSuper = has_unknown f.names (supers_of (slice_get trees i))
+test_with trees f i props indexes SuperRing = false
+test_with trees f i props indexes KindClash = has_kind_clash trees f i
+test_with trees f i props indexes UnknownType = has_unknown_type trees f props
+test_with trees f i props indexes BadType = has_bad_type trees f i props
+test_with trees f i props indexes SerialRing = has_serial_ring trees f i
+test_with trees f i props indexes NotYet = has_not_yet trees props
+test_with trees f i props indexes NoInverse = has_no_inverse trees f i
+test_with trees f i props indexes UnknownIndexProperty = has_unknown_index_prop trees props indexes
+test_with trees f i props indexes BadIndexProperty = has_bad_index_prop trees f props indexes
+test_with trees f i props indexes NameClash = has_name_clash trees f i props indexes
+test_with trees f i props indexes BadParameter = has_bad_parameter trees props
+test_with trees f i props indexes TooMany = has_too_many trees f i props indexes
+
 abbrev pub test_of : List ClassTree → Facts → ℕ → LinkWhy → Bool
-test_of trees f i RepeatedClass = is_repeated f.names i
-test_of trees f i UnknownSuper = has_unknown f.names (supers_of (slice_get trees i))
-test_of trees f i SuperRing = false
-test_of trees f i KindClash = has_kind_clash trees f i
-test_of trees f i UnknownType = has_unknown_type trees f i
-test_of trees f i BadType = has_bad_type trees f i
-test_of trees f i SerialRing = has_serial_ring trees f i
-test_of trees f i NotYet = has_not_yet trees f i
-test_of trees f i NoInverse = has_no_inverse trees f i
-test_of trees f i UnknownIndexProperty = has_unknown_index_prop trees f i
-test_of trees f i BadIndexProperty = has_bad_index_prop trees f i
-test_of trees f i NameClash = has_name_clash trees f i
-test_of trees f i BadParameter = has_bad_parameter trees f i
-test_of trees f i TooMany = has_too_many trees f i
+test_of trees f i why = test_with trees f i (props_in f i) (indexes_in f i) why
 
 -- a class has a reason
 abbrev pub Has : List ClassTree → ℕ → LinkWhy → Type 0

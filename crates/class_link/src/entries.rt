@@ -5,10 +5,11 @@ ghost use Rattle.class_link.specs.Spots.{spot_of};
 ghost use Rattle.class_link.specs.Trees.{prop_at, index_at, spots_in};
 ghost use Rattle.class_link.specs.Facts.{seen, sort_in, option_any, props_in, indexes_in};
 ghost use Rattle.class_link.specs.Reasons.{same_word};
-ghost use Rattle.class_link.specs.Extents.{is_in_extent, is_one_side, side_entry, only_on, alone_on, index_entry, entries_in, same_spot, same_on, same_entry, add_entry, add_entries_if, extent_entries, entry_name, is_on_side, is_same_index, clashes, clash_in, add_distinct, declared_indexes};
+ghost use Rattle.class_link.specs.Extents.{is_in_extent, is_one_side, side_entry, only_on, alone_on, index_entry, entries_with, entries_in, same_spot, same_on, same_entry, add_entry, add_entries_if, extent_entries, entry_name, is_on_side, is_same_index, clashes, clash_in, add_distinct, declared_indexes};
 
 use crate::checks::says;
 use crate::entry::Entry;
+use crate::members::Members;
 use crate::props::{index_at_spot, prop_at_spot};
 use crate::spots::{Spot, SpotTable};
 use obj_kinds::{NoMemory, Text};
@@ -95,12 +96,13 @@ fn push_index_entries(trees: &[ClassTree], props: &SpotTable, pairs: &[(Text, Sp
 }
 
 /// What the objects of a class with these members have entries of.
-pub fn entries_with(alloc: Global, trees: &[ClassTree], props: &SpotTable, spots: &[Spot], indexes: &[(Text, Spot)]) -> Result<Items<Entry>, NoMemory>
-    ensures { IfOk result (λ entries. entries ≡ filter_map (side_entry trees.now) spots.now ++ filter_map (index_entry trees.now props.now) (spots_in indexes.now)) }
+pub fn find_entries(alloc: Global, trees: &[ClassTree], members: &Members, spots: &[Spot]) -> Result<Items<Entry>, NoMemory>
+    requires { spots.now ≡ spots_in members.now.props }
+    ensures { IfOk result (λ entries. entries ≡ entries_with trees.now members.now.props members.now.indexes) }
 {
     let mut entries = Items::new(alloc);
     push_sides(trees, spots, &mut entries)?;
-    push_index_entries(trees, props, indexes, &mut entries)?;
+    push_index_entries(trees, &members.props, members.indexes.as_slice(), &mut entries)?;
     Ok(entries)
 }
 

@@ -6,6 +6,7 @@ mod climbing;
 mod entries;
 mod entry;
 mod error;
+mod late;
 mod members;
 mod numbers;
 mod props;

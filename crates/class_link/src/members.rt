@@ -112,7 +112,8 @@ fn gather_one(alloc: Global, trees: &[ClassTree], class: usize, supers: &[usize]
     Ok(Members { props, indexes })
 }
 
-fn supers_at(hierarchy: &Hierarchy, class: usize) -> &[usize]
+/// The places of the listed superclasses of a class.
+pub fn supers_at(hierarchy: &Hierarchy, class: usize) -> &[usize]
     ensures { result.now ≡ row hierarchy.now.links class }
 {
     match hierarchy.links.get(class) {

@@ -18,7 +18,7 @@ pub use class::{
 pub use hierarchy::{Header, Headers, Hierarchy, begins_with_percent, find_first};
 pub use kind::{Item, Kind};
 pub use links::{Links, Marks, is_marked, marks_above};
-pub use method::{Arg, ArgDecls, Method, Methods};
+pub use method::{Arg, ArgDecls, Method, Methods, copy_methods};
 pub use names::NameTable;
 pub use prop::{Prop, Props, copy_props};
 pub use schema::{Schema, short_name_of};
