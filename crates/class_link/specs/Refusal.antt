@@ -1,5 +1,5 @@
 -- Which class is refused, and why.
-use Rattle.std.specs.Prelude.{◌≡◌, ℕ, ◌<◌, ◌≤◌, ◌⊎◌, Bool, false, List, [], ◌∷◌, length, find, Option, Some, slice_get, IsTrue}
+use Rattle.std.specs.Prelude.{◌≡◌, ℕ, ◌<◌, ◌≤◌, ◌⊎◌, Bool, false, List, [], ◌∷◌, length, find, Option, Some, None, slice_get, IsTrue}
 use Rattle.schema_kinds.specs.declared.tree.ClassTree.{ClassTree}
 use Rattle.schema_kinds.specs.Links.{IsInRing}
 use Rattle.class_link.specs.declared.spots.Spot.{Spot}
@@ -93,8 +93,19 @@ pub record IsFirstReason (trees : List ClassTree) (i : ℕ) (why : LinkWhy) : Ty
   pub first : (j : ℕ) (other : LinkWhy) → j < length trees → Has trees j other → IsUpTo i why j other
 
 -- the reasons of the last group, by their numbers
-abbrev pub late_reasons : List LinkWhy
-late_reasons = KindClash ∷ BadType ∷ SerialRing ∷ NotYet ∷ NoInverse ∷ UnknownIndexProperty ∷ BadIndexProperty ∷ NameClash ∷ BadParameter ∷ TooMany ∷ []
+abbrev pub shape_reasons : List LinkWhy
+shape_reasons = KindClash ∷ BadType ∷ SerialRing ∷ NotYet ∷ NoInverse ∷ []
 
+abbrev pub name_reasons : List LinkWhy
+name_reasons = UnknownIndexProperty ∷ BadIndexProperty ∷ NameClash ∷ BadParameter ∷ TooMany ∷ []
+
+abbrev pub why_or : Option LinkWhy → Option LinkWhy → Option LinkWhy
+why_or None other = other
+why_or (Some why) other = Some why
+
+abbrev pub late_with : List ClassTree → Facts → ℕ → List (List ℕ × Spot) → List (List ℕ × Spot) → Option LinkWhy
+late_with trees f i props indexes = why_or (find (test_with trees f i props indexes) shape_reasons) (find (test_with trees f i props indexes) name_reasons)
+
+-- the first reason of the last group that a class has
 abbrev pub late_reason : List ClassTree → Facts → ℕ → Option LinkWhy
-late_reason trees f i = find (test_of trees f i) late_reasons
+late_reason trees f i = late_with trees f i (props_in f i) (indexes_in f i)

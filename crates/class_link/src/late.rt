@@ -4,13 +4,14 @@ ghost use Rattle.schema_kinds.specs.Links.{row, mark_at, climbs};
 ghost use Rattle.schema_kinds.specs.Classes.{is_persistent};
 ghost use Rattle.class_link.specs.Trees.{prop_at, index_at, spots_in, supers_of};
 ghost use Rattle.class_link.specs.Facts.{seen, sort_in, option_any, any_prop, any_index};
-ghost use Rattle.class_link.specs.Reasons.{has_kind_clash, has_bad_type, has_not_yet, has_no_inverse, has_unknown_index_prop, has_bad_index_prop, bad_parameter, has_bad_parameter, has_unknown_type};
+ghost use Rattle.class_link.specs.Reasons.{has_serial_ring, has_kind_clash, has_bad_type, has_not_yet, has_no_inverse, has_unknown_index_prop, has_bad_index_prop, bad_parameter, has_bad_parameter, has_unknown_type};
 ghost use Rattle.class_link.specs.Extents.{extent_of, extent_entries, entries_with, clash_in, repeats, subnodes, has_name_clash, declared_indexes, long_method, long_tree, long_index, has_too_many};
-ghost use Rattle.class_link.specs.Refusal.{test_with, late_reasons};
+ghost use Rattle.class_link.specs.Refusal.{test_with, shape_reasons, name_reasons, late_with};
 
 use crate::checks::{any_bad_type, any_other_kind, any_persistent, any_to_come, any_unindexed, any_unknown_prop, any_unknown_type, any_without_inverse};
 use crate::entries::{any_clash, count_indexes, find_entries};
 use crate::entry::Entry;
+use crate::error::LinkWhy;
 use crate::members::{Members, own_props_of, supers_at};
 use crate::numbers::has_bad_parameter;
 use crate::props::{index_at_spot, prop_at_spot};
@@ -138,4 +139,66 @@ fn passes_limit(alloc: Global, trees: &[ClassTree], hierarchy: &Hierarchy, table
     }
     let answer = has_crowded_extent(alloc, trees, hierarchy, tables, extent, class)?;
     Ok(answer)
+}
+
+fn shape_reason(trees: &[ClassTree], hierarchy: &Hierarchy, tables: &Tables, is_nested: bool, class: usize, members: &Members, spots: &[Spot]) -> Option<LinkWhy>
+    requires spots { spots.now ≡ spots_in members.now.props }
+    requires nested { is_nested ≡ has_serial_ring trees.now (seen hierarchy.now tables.now) class }
+    ensures { result ≡ find (test_with trees.now (seen hierarchy.now tables.now) class members.now.props members.now.indexes) shape_reasons }
+{
+    if clashes_in_kind(trees, hierarchy, tables, class) {
+        return Some(LinkWhy::KindClash);
+    }
+    if any_bad_type(trees, hierarchy, tables, sort_at(hierarchy, tables, class), spots) {
+        return Some(LinkWhy::BadType);
+    }
+    if is_nested {
+        return Some(LinkWhy::SerialRing);
+    }
+    if any_to_come(trees, spots) {
+        return Some(LinkWhy::NotYet);
+    }
+    if lacks_an_inverse(trees, hierarchy, tables, class) {
+        return Some(LinkWhy::NoInverse);
+    }
+    None
+}
+
+fn name_reason(alloc: Global, trees: &[ClassTree], hierarchy: &Hierarchy, tables: &Tables, extent: &[Entry], is_deep: bool, class: usize, members: &Members, spots: &[Spot]) -> Result<Option<LinkWhy>, NoMemory>
+    requires spots { spots.now ≡ spots_in members.now.props }
+    requires extent { extent.now ≡ extent_of trees.now (seen hierarchy.now tables.now) class }
+    requires deep { is_deep ≡ climbs 17 hierarchy.now.links class }
+    ensures { IfOk result (λ why. why ≡ find (test_with trees.now (seen hierarchy.now tables.now) class members.now.props members.now.indexes) name_reasons) }
+{
+    if any_unknown_prop(trees, &members.props, members.indexes.as_slice()) {
+        return Ok(Some(LinkWhy::UnknownIndexProperty));
+    }
+    if any_unindexed(trees, hierarchy, tables, &members.props, members.indexes.as_slice()) {
+        return Ok(Some(LinkWhy::BadIndexProperty));
+    }
+    if clashes_in_name(alloc, trees, hierarchy, tables, extent, class, members, spots)? {
+        return Ok(Some(LinkWhy::NameClash));
+    }
+    if any_bad_parameter(trees, spots) {
+        return Ok(Some(LinkWhy::BadParameter));
+    }
+    if passes_limit(alloc, trees, hierarchy, tables, extent, is_deep, class, members, spots)? {
+        return Ok(Some(LinkWhy::TooMany));
+    }
+    Ok(None)
+}
+
+/// The first reason of the last group that a class with these members has.
+pub fn late_with(alloc: Global, trees: &[ClassTree], hierarchy: &Hierarchy, tables: &Tables, extent: &[Entry], is_nested: bool, is_deep: bool, class: usize, members: &Members) -> Result<Option<LinkWhy>, NoMemory>
+    requires extent { extent.now ≡ extent_of trees.now (seen hierarchy.now tables.now) class }
+    requires nested { is_nested ≡ has_serial_ring trees.now (seen hierarchy.now tables.now) class }
+    requires deep { is_deep ≡ climbs 17 hierarchy.now.links class }
+    ensures { IfOk result (λ why. why ≡ late_with trees.now (seen hierarchy.now tables.now) class members.now.props members.now.indexes) }
+{
+    let spots = members.props.spots(alloc)?;
+    if let Some(why) = shape_reason(trees, hierarchy, tables, is_nested, class, members, spots.as_slice()) {
+        return Ok(Some(why));
+    }
+    let why = name_reason(alloc, trees, hierarchy, tables, extent, is_deep, class, members, spots.as_slice())?;
+    Ok(why)
 }

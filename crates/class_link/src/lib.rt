@@ -6,6 +6,8 @@ mod climbing;
 mod entries;
 mod entry;
 mod error;
+mod extents;
+mod facts;
 mod late;
 mod members;
 mod numbers;
