@@ -1,2 +1,4 @@
 pub mod SpotLists
 pub mod Gathering
+pub mod FactLemmas
+pub mod FirstReason

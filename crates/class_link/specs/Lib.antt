@@ -8,3 +8,4 @@ pub mod Extents
 pub mod Refusal
 pub mod Meaning
 pub mod Climbing
+pub mod Passes

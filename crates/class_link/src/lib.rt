@@ -11,6 +11,7 @@ mod facts;
 mod late;
 mod members;
 mod numbers;
+mod passes;
 mod props;
 mod spots;
 mod subnodes;
