@@ -1,5 +1,5 @@
 -- The schema that class trees mean.
-use Rattle.std.specs.Prelude.{ℕ, ℤ, pos, ◌+◌, Bool, true, false, cond, List, [], ◌∷◌, filter_map, codes, int_lt, unsigned_abs, Option, Some, None, option_and_then, option_map}
+use Rattle.std.specs.Prelude.{ℕ, ℤ, pos, ◌+◌, Bool, true, false, cond, ◌||◌, List, [], ◌∷◌, filter_map, codes, int_lt, unsigned_abs, Option, Some, None, option_and_then, option_map}
 use Rattle.obj_kinds.specs.declared.name.ClassName.{ClassName}
 use Rattle.schema_kinds.specs.declared.class.Class.{Class}
 use Rattle.schema_kinds.specs.declared.class.Sort.{Sort}
@@ -99,7 +99,7 @@ has_whole (k.Many name side) = false
 has_whole (k.One name side) = false
 
 abbrev pub len_limit : ℤ → Option ℕ
-len_limit z = cond (int_lt (pos 32767) z) None (Some (unsigned_abs z))
+len_limit z = cond (int_lt (pos 32767) z || int_lt z (pos 0)) None (Some (unsigned_abs z))
 
 abbrev pub given_len : Option (List ℕ) → Option ℕ
 given_len None = Some 50

@@ -1,6 +1,7 @@
 //! Links the class trees of all class files to one schema, or says which class can't be linked, and why.
 #![tactic(auto)]
 
+mod build;
 mod checks;
 mod climbing;
 mod entries;
@@ -8,6 +9,7 @@ mod entry;
 mod error;
 mod extents;
 mod facts;
+mod kinds;
 mod late;
 mod members;
 mod numbers;
