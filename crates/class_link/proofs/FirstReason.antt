@@ -6,6 +6,7 @@ use Rattle.class_link.specs.declared.error.LinkWhy.TheVariants.{RepeatedClass, U
 use Rattle.class_link.specs.Facts.{facts_of}
 use Rattle.class_link.specs.Refusal.{test_of, Has, group_of, number_of, IsUpTo, IsFirstReason, shape_reasons, name_reasons, why_or, late_reason}
 use Rattle.class_link.specs.Passes.{IsFirstOf}
+use Rattle.class_link.specs.Linking.{NoneBelow}
 
 -- a function that finds the first reason of a group of one class
 pub record IsGroup (trees : List ClassTree) (g : ℕ) (reason : ℕ → Option LinkWhy) : Type 0 where
@@ -18,10 +19,6 @@ compare zero zero = inr (inl refl)
 compare zero (suc j) = inl (omega arith)
 compare (suc i) zero = inr (inr (omega arith))
 compare (suc i) (suc j) = elim (compare i j) [ inl l ↦ inl (omega (arith, l)) | inr r ↦ elim r [ inl e ↦ inr (inl (ap suc e)) | inr m ↦ inr (inr (omega (arith, m))) ] ]
-
--- no class has a reason of an earlier group
-abbrev pub NoneBelow : List ClassTree → ℕ → Type 0
-NoneBelow trees g = (j : ℕ) (other : LinkWhy) → j < length trees → Has trees j other → g ≤ group_of other
 
 module _ (trees : List ClassTree) (g : ℕ) (reason : ℕ → Option LinkWhy) (is : IsGroup trees g reason) (none : NoneBelow trees g) where
   pub found-first : (i : ℕ) (why : LinkWhy) → IsFirstOf reason (length trees) (Some (i, why)) → IsFirstReason trees i why

@@ -42,9 +42,12 @@ super-within trees =
     let long : length (names_of (headers_of trees)) ≡ length (super_links trees) = length-map (λ h. h.name.0) (headers_of trees) ∙ sym (length-map (λ h. super_places (names_of (headers_of trees)) h.supers) (headers_of trees)) in
     subst (AreWithin (super_links trees)) long (links-within (names_of (headers_of trees)) (headers_of trees))
 
+pub above-tables : (trees : List ClassTree) (h : Hierarchy) → IsHierarchyOf (headers_of trees) h → AreAllAbove (super_links trees) (length (super_links trees)) h.above
+above-tables trees h is = subst (λ n. AreAllAbove (super_links trees) n h.above) (length-map header_of trees ∙ sym (length-links trees)) is.above
+
 module _ (trees : List ClassTree) (h : Hierarchy) (is : IsHierarchyOf (headers_of trees) h) (no_ring : (i : ℕ) → i < length trees → ¬ IsInRing (super_links trees) i) where
   tables : AreAllAbove (super_links trees) (length (super_links trees)) h.above
-  tables = subst (λ n. AreAllAbove (super_links trees) n h.above) (length-map header_of trees ∙ sym (length-links trees)) is.above
+  tables = above-tables trees h is
 
   no_ring_there : (i : ℕ) → i < length (super_links trees) → ¬ IsInRing (super_links trees) i
   no_ring_there i small = no_ring i (subst (λ n. i < n) (length-links trees) small)

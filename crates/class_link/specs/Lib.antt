@@ -9,3 +9,4 @@ pub mod Refusal
 pub mod Meaning
 pub mod Climbing
 pub mod Passes
+pub mod Linking

@@ -11,6 +11,7 @@ mod extents;
 mod facts;
 mod kinds;
 mod late;
+mod linking;
 mod members;
 mod numbers;
 mod passes;
@@ -21,6 +22,7 @@ mod tables;
 
 pub use entry::Entry;
 pub use error::{LinkError, LinkWhy};
+pub use linking::link;
 pub use members::{Members, gather_all};
 pub use props::{has_unknown_class, index_at_spot, is_same_kind, prop_at_spot};
 pub use tables::Tables;
