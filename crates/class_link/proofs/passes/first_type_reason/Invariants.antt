@@ -1,0 +1,7 @@
+use Rattle.std.proofs.Common.{◌≡◌, ℕ, ◌<◌, None}
+use Rattle.class_link.specs.Facts.{seen}
+use Rattle.class_link.specs.Passes.{type_reason}
+use Rattle.class_link.proofs.passes.first_type_reason.Given as goal
+
+abbrev pub invariant-loop-class : goal.invariant-loop-class
+invariant-loop-class l = (j : ℕ) → j < l.class → type_reason l.trees (seen l.hierarchy l.tables) j ≡ None
