@@ -36,7 +36,7 @@ list-by-get (x ∷ xs) g s (suc n) long h =
     let head : Some x ≡ Some (g s) = h 0 (omega arith) ∙ ap (λ m. Some (g m)) e in
     let same : x ≡ g s = cc in
     let rest = list-by-get xs g (s + 1) n (omega (arith, long))
-      (λ k small. let f : s + suc k ≡ s + 1 + k = omega arith in h (suc k) (omega arith) ∙ ap (λ m. Some (g m)) f) in
+    (λ k small. let f : s + suc k ≡ s + 1 + k = omega arith in h (suc k) (omega arith) ∙ ap (λ m. Some (g m)) f) in
     λ i. same i ∷ rest i
 
 map-map : {A B C : Type 0} (f : B → C) (g : A → B) (xs : List A) → map f (map g xs) ≡ map (λ x. f (g x)) xs
@@ -54,14 +54,21 @@ pub seen-facts : (trees : List ClassTree) (h : Hierarchy) (t : Tables) → IsHie
     → t.sorts ≡ map (λ i. sort_above (supers_of (slice_get trees i))) t.tops
     → AreGathered trees t.members → seen h t ≡ facts_of trees
 seen-facts trees h t is tops sorts members = λ i. record {
-    names = is.names i; links = is.links i; firsts = is.firsts i; sorts = sorts_are i; tops = tops_are i; members = members_are i
-  }
+  names = is.names i;
+  links = is.links i;
+  firsts = is.firsts i;
+  sorts = sorts_are i;
+  tops = tops_are i;
+  members = members_are i;
+}
   where
     tops_are : t.tops ≡ map (λ i. top_of trees i) (places_of trees)
     tops_are = tops ∙ ap (λ f. map (λ i. top (length f) f i) (count_from 0 (length trees))) is.firsts
         ∙ ap (λ n. map (λ i. top n (firsts_of (headers_of trees)) i) (count_from 0 (length trees))) (length-firsts trees)
+
     sorts_are : t.sorts ≡ map (λ i. sort_of trees i) (places_of trees)
     sorts_are = sorts ∙ ap (map (λ i. sort_above (supers_of (slice_get trees i)))) tops_are ∙ map-map (λ i. sort_above (supers_of (slice_get trees i))) (λ i. top_of trees i) (places_of trees)
+
     members_are : t.members ≡ map (λ i. members_of trees i) (places_of trees)
     members_are = list-by-get t.members (λ i. members_of trees i) 0 (length trees) members.as_many
         (λ k small. let e : k ≡ 0 + k = omega arith in members.each k small ∙ ap (λ m. Some (members_of trees m)) e)
@@ -102,6 +109,7 @@ part-small f name j h = by (place_of f.names name) refl h
     inner : (i : ℕ) → place_of f.names name ≡ Some i → (b : Bool) → cond b (Some i) None ≡ Some j → j < length f.names
     inner i e true same = let inside = (position-Some (same_text name.0) f.names i [] e).0 in let is : i ≡ j = cc in omega (arith, is)
     inner i e false same = cc
+
     by : (o : Option ℕ) → place_of f.names name ≡ o → option_and_then (λ i. cond (is_serial (sort_in f i)) (Some i) None) o ≡ Some j → j < length f.names
     by None e h = cc
     by (Some i) e h = inner i e (is_serial (sort_in f i)) h
@@ -130,9 +138,9 @@ length-parts trees f = length-map (parts_in trees f) (count_from 0 (length trees
 pub parts-within : (trees : List ClassTree) (f : Facts) → length f.names ≡ length trees → AreWithin (part_links trees f) (length (part_links trees f))
 parts-within trees f long =
     subst (AreWithin (part_links trees f)) (long ∙ sym (length-parts trees f))
-      (rows-within (parts_in trees f) (length f.names)
-        (λ i. filter_map-within (λ s. option_and_then (part_of f) (prop_at trees s)) (length f.names) (λ s j h. part_at-small f (prop_at trees s) j h) _)
-        (count_from 0 (length trees)))
+    (rows-within (parts_in trees f) (length f.names)
+    (λ i. filter_map-within (λ s. option_and_then (part_of f) (prop_at trees s)) (length f.names) (λ s j h. part_at-small f (prop_at trees s) j h) _)
+    (count_from 0 (length trees)))
 
 -- the root above a class is a class
 first-small : (names : List (List ℕ)) (headers : List Header) (i j : ℕ) → get_or (map (λ h. first_place names h.supers) headers) i None ≡ Some j → j < length names
@@ -155,4 +163,4 @@ top-small (suc m) firsts n h i small = by (λ j inside. top-small m firsts n h j
 pub top_of-small : (trees : List ClassTree) (i : ℕ) → i < length trees → top_of trees i < length trees
 top_of-small trees i small =
     top-small (length trees) (firsts_of (headers_of trees)) (length trees)
-      (λ k j h. subst (λ n. j < n) (length-names trees) (first-small (names_of (headers_of trees)) (headers_of trees) k j h)) i small
+    (λ k j h. subst (λ n. j < n) (length-names trees) (first-small (names_of (headers_of trees)) (headers_of trees) k j h)) i small

@@ -23,18 +23,20 @@ compare (suc i) (suc j) = elim (compare i j) [ inl l ↦ inl (omega (arith, l)) 
 module _ (trees : List ClassTree) (g : ℕ) (reason : ℕ → Option LinkWhy) (is : IsGroup trees g reason) (none : NoneBelow trees g) where
   pub found-first : (i : ℕ) (why : LinkWhy) → IsFirstOf reason (length trees) (Some (i, why)) → IsFirstReason trees i why
   found-first i why found = record {
-      within = found.0;
-      has = (is.sound i why found.0 found.1).0;
-      first = λ j other small has. by j other small has (compare g (group_of other))
-    }
+    within = found.0;
+    has = (is.sound i why found.0 found.1).0;
+    first = λ j other small has. by j other small has (compare g (group_of other));
+  }
     where
       group : group_of why ≡ g
       group = (is.sound i why found.0 found.1).1
+
       here : (j : ℕ) (other : LinkWhy) → j < length trees → Has trees j other → group_of other ≡ g → (i < j) ⊎ (i ≡ j) ⊎ (j < i) → IsUpTo i why j other
       here j other small has same (inl l) = inr (group ∙ sym same, inl l)
       here j other small has same (inr (inl e)) =
           inr (group ∙ sym same, inr (e, is.least i why other found.0 found.1 (subst (λ k. Has trees k other) (sym e) has) same))
       here j other small has same (inr (inr l)) = absurd (is.whole j other small (found.2 j l) has same)
+
       by : (j : ℕ) (other : LinkWhy) → j < length trees → Has trees j other → (g < group_of other) ⊎ (g ≡ group_of other) ⊎ (group_of other < g) → IsUpTo i why j other
       by j other small has (inl l) = inl (omega (arith, l, group))
       by j other small has (inr (inl e)) = here j other small has (sym e) (compare i j)
@@ -198,10 +200,10 @@ module _ (test : LinkWhy → Bool) where
 
 pub late-group : (trees : List ClassTree) → IsGroup trees 4 (late_reason trees (facts_of trees))
 late-group trees = record {
-    sound = λ i why small h. let is = either-is (test_of trees (facts_of trees) i) (find (test_of trees (facts_of trees) i) shape_reasons) why refl h in (late-Has trees i why is.0 is.1, is.0);
-    least = λ i why other small h has g. either-least (test_of trees (facts_of trees) i) (find (test_of trees (facts_of trees) i) shape_reasons) why other refl h (Has-late trees i other g has) (late-member other g);
-    whole = λ i other small h has g.
+  sound = λ i why small h. let is = either-is (test_of trees (facts_of trees) i) (find (test_of trees (facts_of trees) i) shape_reasons) why refl h in (late-Has trees i why is.0 is.1, is.0);
+  least = λ i why other small h has g. either-least (test_of trees (facts_of trees) i) (find (test_of trees (facts_of trees) i) shape_reasons) why other refl h (Has-late trees i other g has) (late-member other g);
+  whole = λ i other small h has g.
       let off = either-none (test_of trees (facts_of trees) i) (find (test_of trees (facts_of trees) i) shape_reasons) other refl h (late-member other g) in
       let on = Has-late trees i other g has in
-      cc
-  }
+      cc;
+}

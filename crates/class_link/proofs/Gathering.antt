@@ -27,7 +27,7 @@ pub members-stable : (trees : List ClassTree) (n i : ℕ) → climbs n (super_li
 members-stable trees zero i h = cc
 members-stable trees (suc n) i h =
     ap (members_with trees i) (map-same (λ s. members_up (suc n) trees s) (λ s. members_up n trees s) (row (super_links trees) i)
-      (λ s into. members-stable trees n s (none-IsIn (λ t. climbs n (super_links trees) t) (row (super_links trees) i) s h into)))
+    (λ s into. members-stable trees n s (none-IsIn (λ t. climbs n (super_links trees) t) (row (super_links trees) i) s h into)))
 
 -- the members of a class are its own and those of its superclasses
 pub members-step : (trees : List ClassTree) (i : ℕ) → climbs (length trees) (super_links trees) i ≡ false
@@ -55,7 +55,7 @@ module _ (trees : List ClassTree) (h : Hierarchy) (is : IsHierarchyOf (headers_o
   pub members-here : (i : ℕ) → i < length trees → members_of trees i ≡ members_with trees i (map (λ s. members_of trees s) (row (super_links trees) i))
   members-here i small =
       members-step trees i (subst (λ n. climbs n (super_links trees) i ≡ false) (length-links trees)
-        (climbs_bound (super_links trees) h.above tables (super-within trees) no_ring_there i (subst (λ n. i < n) (sym (length-links trees)) small)))
+      (climbs_bound (super_links trees) h.above tables (super-within trees) no_ring_there i (subst (λ n. i < n) (sym (length-links trees)) small)))
 
   pub rank-limit : (i : ℕ) → i < length trees → rank h.above i ≤ length trees
   rank-limit i small = subst (λ n. rank h.above i ≤ n) (length-links trees)
@@ -78,27 +78,28 @@ module _ (trees : List ClassTree) (h : Hierarchy) (is : IsHierarchyOf (headers_o
   pub gathered-set : (r i : ℕ) (done : List Members) (m : Members) → i < length trees → rank h.above i ≡ r → AreGatheredTo trees h.above r i done
       → m ≡ members_with trees i (filter_map (slice_get done) (row h.links i)) → AreGatheredTo trees h.above r (i + 1) (slice_set done i m)
   gathered-set r i done m small at before is_m = record {
-      as_many = length-set done i m ∙ before.as_many;
-      each = λ j inside when. by j inside when (lib_eq i j)
-    }
+    as_many = length-set done i m ∙ before.as_many;
+    each = λ j inside when. by j inside when (lib_eq i j);
+  }
     where
       lib_eq : (i j : ℕ) → (i ≡ j) ⊎ (i ≢ j)
       lib_eq zero zero = inl refl
       lib_eq zero (suc j) = inr (λ e. omega (arith, e))
       lib_eq (suc i) zero = inr (λ e. omega (arith, e))
       lib_eq (suc i) (suc j) = elim (lib_eq i j) [ inl e ↦ inl (ap suc e) | inr d ↦ inr (λ e. d (omega (arith, e))) ]
+
       by : (j : ℕ) → j < length trees → (rank h.above j < r) ⊎ ((rank h.above j ≡ r) × (j < i + 1)) → (i ≡ j) ⊎ (i ≢ j) → slice_get (slice_set done i m) j ≡ Some (members_of trees j)
       by j inside when (inl e) =
           subst (λ k. slice_get (slice_set done i m) k ≡ Some (members_of trees k)) e
-            (get-set done i m (omega (arith, before.as_many)) ∙ ap Some (is_m ∙ gathered-right r i done small at before))
+          (get-set done i m (omega (arith, before.as_many)) ∙ ap Some (is_m ∙ gathered-right r i done small at before))
       by j inside (inl low) (inr d) = get-set_other done i j m d ∙ before.each j inside (inl low)
       by j inside (inr same) (inr d) = get-set_other done i j m d ∙ before.each j inside (inr (same.0, omega (arith, same.1, d)))
 
   pub gathered-skip : (r i : ℕ) (done : List Members) → rank h.above i ≢ r → AreGatheredTo trees h.above r i done → AreGatheredTo trees h.above r (i + 1) done
   gathered-skip r i done off before = record {
-      as_many = before.as_many;
-      each = by
-    }
+    as_many = before.as_many;
+    each = by;
+  }
     where
       by : (j : ℕ) → j < length trees → (rank h.above j < r) ⊎ ((rank h.above j ≡ r) × (j < i + 1)) → slice_get done j ≡ Some (members_of trees j)
       by j inside (inl low) = before.each j inside (inl low)
@@ -106,29 +107,30 @@ module _ (trees : List ClassTree) (h : Hierarchy) (is : IsHierarchyOf (headers_o
 
   pub gathered-next : (r : ℕ) (done : List Members) → AreGatheredTo trees h.above r (length trees) done → AreGatheredTo trees h.above (r + 1) 0 done
   gathered-next r done all = record {
-      as_many = all.as_many;
-      each = by
-    }
+    as_many = all.as_many;
+    each = by;
+  }
     where
       cases : (a r : ℕ) → a < r + 1 → (a < r) ⊎ (a ≡ r)
       cases a zero h = inr (omega arith)
       cases zero (suc r) h = inl (omega arith)
       cases (suc a) (suc r) h = elim (cases a r (omega arith)) [ inl l ↦ inl (omega (arith, l)) | inr e ↦ inr (ap suc e) ]
+
       by : (j : ℕ) → j < length trees → (rank h.above j < r + 1) ⊎ ((rank h.above j ≡ r + 1) × (j < 0)) → slice_get done j ≡ Some (members_of trees j)
       by j inside (inl low) = elim (cases (rank h.above j) r low) [ inl l ↦ all.each j inside (inl l) | inr e ↦ all.each j inside (inr (e, inside)) ]
       by j inside (inr same) = absurd (omega (arith, same.1))
 
   pub gathered-end : (done : List Members) → AreGatheredTo trees h.above (length trees + 1) 0 done → AreGathered trees done
   gathered-end done all = record {
-      as_many = all.as_many;
-      each = λ j inside. let limit = rank-limit j inside in all.each j inside (inl (omega arith))
-    }
+    as_many = all.as_many;
+    each = λ j inside. let limit = rank-limit j inside in all.each j inside (inl (omega arith));
+  }
 
 pub gathered-none : (trees : List ClassTree) (above : List (List Bool)) (done : List Members) → length done ≡ length trees → AreGatheredTo trees above 0 0 done
 gathered-none trees above done long = record {
-    as_many = long;
-    each = by
-  }
+  as_many = long;
+  each = by;
+}
   where
     by : (j : ℕ) → j < length trees → (rank above j < 0) ⊎ ((rank above j ≡ 0) × (j < 0)) → slice_get done j ≡ Some (members_of trees j)
     by j inside (inl low) = absurd (omega (arith, low))

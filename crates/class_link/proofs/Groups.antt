@@ -35,28 +35,30 @@ off-on b off on = cc
 
 pub name-group : (trees : List ClassTree) → IsGroup trees 1 (name_reason (tree_names trees))
 name-group trees = record {
-    sound = λ i why small h. let is = one-some (is_repeated (tree_names trees) i) RepeatedClass why h in (subst (Has trees i) is.1 is.0, ap group_of (sym is.1));
-    least = λ i why other small h has g. let is = one-some (is_repeated (tree_names trees) i) RepeatedClass why h in least other why is.1 g;
-    whole = λ i other small h has g. whole i other (one-none (is_repeated (tree_names trees) i) RepeatedClass h) has g
-  }
+  sound = λ i why small h. let is = one-some (is_repeated (tree_names trees) i) RepeatedClass why h in (subst (Has trees i) is.1 is.0, ap group_of (sym is.1));
+  least = λ i why other small h has g. let is = one-some (is_repeated (tree_names trees) i) RepeatedClass why h in least other why is.1 g;
+  whole = λ i other small h has g. whole i other (one-none (is_repeated (tree_names trees) i) RepeatedClass h) has g;
+}
   where
     least : (other why : LinkWhy) → RepeatedClass ≡ why → group_of other ≡ 1 → number_of why ≤ number_of other
     least RepeatedClass why e g = omega (arith, ap number_of e)
     least other why e g = absurd (omega (arith, g))
+
     whole : (i : ℕ) (other : LinkWhy) → is_repeated (tree_names trees) i ≡ false → Has trees i other → group_of other ≢ 1
     whole i RepeatedClass off has g = off-on (is_repeated (tree_names trees) i) off has
     whole i other off has g = absurd (omega (arith, g))
 
 pub type-group : (trees : List ClassTree) → IsGroup trees 3 (type_reason trees (facts_of trees))
 type-group trees = record {
-    sound = λ i why small h. let is = one-some (has_unknown_type trees (facts_of trees) (props_in (facts_of trees) i)) UnknownType why h in (subst (Has trees i) is.1 is.0, ap group_of (sym is.1));
-    least = λ i why other small h has g. let is = one-some (has_unknown_type trees (facts_of trees) (props_in (facts_of trees) i)) UnknownType why h in least other why is.1 g;
-    whole = λ i other small h has g. whole i other (one-none (has_unknown_type trees (facts_of trees) (props_in (facts_of trees) i)) UnknownType h) has g
-  }
+  sound = λ i why small h. let is = one-some (has_unknown_type trees (facts_of trees) (props_in (facts_of trees) i)) UnknownType why h in (subst (Has trees i) is.1 is.0, ap group_of (sym is.1));
+  least = λ i why other small h has g. let is = one-some (has_unknown_type trees (facts_of trees) (props_in (facts_of trees) i)) UnknownType why h in least other why is.1 g;
+  whole = λ i other small h has g. whole i other (one-none (has_unknown_type trees (facts_of trees) (props_in (facts_of trees) i)) UnknownType h) has g;
+}
   where
     least : (other why : LinkWhy) → UnknownType ≡ why → group_of other ≡ 3 → number_of why ≤ number_of other
     least UnknownType why e g = omega (arith, ap number_of e)
     least other why e g = absurd (omega (arith, g))
+
     whole : (i : ℕ) (other : LinkWhy) → has_unknown_type trees (facts_of trees) (props_in (facts_of trees) i) ≡ false → Has trees i other → group_of other ≢ 3
     whole i UnknownType off has g = off-on (has_unknown_type trees (facts_of trees) (props_in (facts_of trees) i)) off has
     whole i other off has g = absurd (omega (arith, g))
@@ -93,8 +95,8 @@ module _ (trees : List ClassTree) (h : Hierarchy) (is : IsHierarchyOf (headers_o
   ring-not : ring_mark h.links h.above i ≡ false → IsInRing (super_links trees) i → ⊥
   ring-not off ring =
       off-on (mark_at (get_or h.above ring.0 []) i)
-        (none-IsIn (λ s. mark_at (get_or h.above s []) i) (row (super_links trees) i) ring.0 (sym links_mark ∙ off) ring.1)
-        ((all_above.each ring.0 (inside ring.0 ring.1)).all_marks i ring.2)
+      (none-IsIn (λ s. mark_at (get_or h.above s []) i) (row (super_links trees) i) ring.0 (sym links_mark ∙ off) ring.1)
+      ((all_above.each ring.0 (inside ring.0 ring.1)).all_marks i ring.2)
 
   unknown_same : has_unknown h.names (supers_of (slice_get trees i)) ≡ has_unknown (tree_names trees) (supers_of (slice_get trees i))
   unknown_same = ap (λ n. has_unknown n (supers_of (slice_get trees i))) is.names
@@ -126,10 +128,10 @@ module _ (trees : List ClassTree) (h : Hierarchy) (is : IsHierarchyOf (headers_o
 
 pub super-group : (trees : List ClassTree) (h : Hierarchy) → IsHierarchyOf (headers_of trees) h → IsGroup trees 2 (super_reason trees h)
 super-group trees h is = record {
-    sound = λ i why small e. super-sound trees h is i small why e;
-    least = λ i why other small e has g. super-least trees h is i small why other e has g;
-    whole = λ i other small e has g. super-whole trees h is i small other e has g
-  }
+  sound = λ i why small e. super-sound trees h is i small why e;
+  least = λ i why other small e has g. super-least trees h is i small why other e has g;
+  whole = λ i other small e has g. super-whole trees h is i small other e has g;
+}
 
 -- where no class is refused for its superclasses, none is in a ring
 pub no-ring : (trees : List ClassTree) → NoneBelow trees 3 → (i : ℕ) → i < length trees → ¬ IsInRing (super_links trees) i
@@ -170,6 +172,7 @@ further whole from None off rest = λ j low high. by j high (at_or_above from j 
     at_or_above zero (suc j) h = inr (omega arith)
     at_or_above (suc a) zero h = absurd (omega arith)
     at_or_above (suc a) (suc j) h = elim (at_or_above a j (omega arith)) [ inl e ↦ inl (ap suc e) | inr m ↦ inr (omega (arith, m)) ]
+
     by : (j : ℕ) → j < length whole → (from ≡ j) ⊎ (from + 1 ≤ j) → is_repeated whole j ≡ false
     by j high (inl e) = subst (λ k. is_repeated whole k ≡ false) e off
     by j high (inr m) = rest j m high
@@ -180,6 +183,7 @@ further whole from (Some k) off rest = (omega (arith, rest.0), rest.1, rest.2, �
     at_or_above zero (suc j) h = inr (omega arith)
     at_or_above (suc a) zero h = absurd (omega arith)
     at_or_above (suc a) (suc j) h = elim (at_or_above a j (omega arith)) [ inl e ↦ inl (ap suc e) | inr m ↦ inr (omega (arith, m)) ]
+
     by : (j : ℕ) → j < k → (from ≡ j) ⊎ (from + 1 ≤ j) → is_repeated whole j ≡ false
     by j high (inl e) = subst (λ k. is_repeated whole k ≡ false) e off
     by j high (inr m) = rest.3 j m high
@@ -188,8 +192,8 @@ first-from : (names seen : List (List ℕ)) → FirstFrom (seen ++ names) (lengt
 first-from [] seen = λ j low high. let long = ap length (append-nil seen) in absurd (omega (arith, long))
 first-from (n ∷ names) seen =
     by (subst (λ w. FirstFrom w (length seen + 1) (first_repeated (length seen + 1) (seen ++ n ∷ []) names)) (append_assoc seen (n ∷ []) names)
-        (subst (λ m. FirstFrom (seen ++ n ∷ [] ++ names) m (first_repeated m (seen ++ n ∷ []) names)) (length-more seen n) (first-from names (seen ++ n ∷ []))))
-      (list_any (same_text n) seen) refl
+    (subst (λ m. FirstFrom (seen ++ n ∷ [] ++ names) m (first_repeated m (seen ++ n ∷ []) names)) (length-more seen n) (first-from names (seen ++ n ∷ []))))
+    (list_any (same_text n) seen) refl
   where
     by : FirstFrom (seen ++ n ∷ names) (length seen + 1) (first_repeated (length seen + 1) (seen ++ n ∷ []) names) → (b : Bool) → list_any (same_text n) seen ≡ b
         → FirstFrom (seen ++ n ∷ names) (length seen) (cond b (Some (length seen)) (first_repeated (length seen + 1) (seen ++ n ∷ []) names))

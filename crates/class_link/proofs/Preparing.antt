@@ -31,10 +31,10 @@ module _ (trees : List ClassTree) (f : Facts) (are : f ≡ facts_of trees) where
   pub prepared : (entries : List (List Entry)) (depth parts : List Bool) → entries ≡ map (extent_entries trees f) (count_from 0 (length trees))
       → depth ≡ climb_marks 17 f.links → parts ≡ climb_marks 5 (part_links trees f) → ArePrepared trees f entries depth parts
   prepared entries depth parts e d p = record {
-      extents = e;
-      deep = λ i small. ap (λ ms. mark_at ms i) d ∙ climb_marks-climbs 17 f.links links-there i (subst (λ n. i < n) (sym long-links) small);
-      nested = λ i small. ap (λ ms. mark_at ms i) p ∙ climb_marks-climbs 5 (part_links trees f) (parts-within trees f long-names) i (subst (λ n. i < n) (sym (length-parts trees f)) small)
-    }
+    extents = e;
+    deep = λ i small. ap (λ ms. mark_at ms i) d ∙ climb_marks-climbs 17 f.links links-there i (subst (λ n. i < n) (sym long-links) small);
+    nested = λ i small. ap (λ ms. mark_at ms i) p ∙ climb_marks-climbs 5 (part_links trees f) (parts-within trees f long-names) i (subst (λ n. i < n) (sym (length-parts trees f)) small);
+  }
 
   top-there : (i : ℕ) → i < length trees → slice_get f.tops i ≡ Some (top_of trees i)
   top-there i small = ap (λ (g : Facts). slice_get g.tops i) are ∙ get-count (λ j. top_of trees j) 0 (length trees) i small ∙ (let e : 0 + i ≡ i = omega arith in ap (λ j. Some (top_of trees j)) e)

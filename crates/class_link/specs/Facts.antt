@@ -38,7 +38,7 @@ facts_of trees = record {
   firsts = firsts_of (headers_of trees);
   sorts = map (λ i. sort_of trees i) (places_of trees);
   tops = map (λ i. top_of trees i) (places_of trees);
-  members = map (λ i. members_of trees i) (places_of trees)
+  members = map (λ i. members_of trees i) (places_of trees);
 }
 
 -- the same, as the tables hold it

@@ -113,8 +113,13 @@ bound_of kind given = cond (has_whole kind) (option_and_then number_of given) No
 
 abbrev pub prop_with : PropTree → Kind → Prop
 prop_with p kind = record {
-  name = p.name; kind = kind; required = p.required; initial = p.initial;
-  max_len = max_len_of kind p.max_len; min_val = bound_of kind p.min_val; max_val = bound_of kind p.max_val
+  name = p.name;
+  kind = kind;
+  required = p.required;
+  initial = p.initial;
+  max_len = max_len_of kind p.max_len;
+  min_val = bound_of kind p.min_val;
+  max_val = bound_of kind p.max_val;
 }
 
 abbrev pub prop_of : Facts → PropTree → Option Prop
@@ -123,10 +128,12 @@ prop_of f p = option_map (prop_with p) (kind_by f p.of p.form)
 -- a class with all that it has
 abbrev pub class_with : List ClassTree → Facts → ℕ → ClassTree → Class
 class_with trees f i tree = record {
-  name = tree.name; sort = sort_in f i; supers = tree.supers;
+  name = tree.name;
+  sort = sort_in f i;
+  supers = tree.supers;
   props = filter_map (λ s. option_and_then (prop_of f) (prop_at trees s)) (spots_in (props_in f i));
   indexes = filter_map (index_at trees) (spots_in (indexes_in f i));
-  methods = tree.methods
+  methods = tree.methods;
 }
 
 abbrev pub classes_from : List ClassTree → Facts → ℕ → List ClassTree → List Class

@@ -84,7 +84,7 @@ inherited_indexes supers = fold (λ spots m. add_spots spots m.indexes) [] super
 abbrev pub members_with : List ClassTree → ℕ → List Members → Members
 members_with trees i supers = record {
   props = put_spots (inherited_props supers) (prop_spots i 0 (own_props (slice_get trees i)));
-  indexes = inherited_indexes supers ++ index_spots i 0 (own_indexes (slice_get trees i))
+  indexes = inherited_indexes supers ++ index_spots i 0 (own_indexes (slice_get trees i));
 }
 
 abbrev pub members_up : ℕ → List ClassTree → ℕ → Members

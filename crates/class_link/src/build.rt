@@ -8,11 +8,19 @@ use crate::props::{index_at_spot, prop_at_spot};
 use crate::spots::Spot;
 use crate::tables::{Tables, sort_at};
 use obj_kinds::{NoMemory, Text};
-use schema_kinds::{Class, ClassTree, Classes, Hierarchy, Indexes, Prop, Props, copy_class_names, copy_methods};
+use schema_kinds::{
+    Class, ClassTree, Classes, Hierarchy, Indexes, Prop, Props, copy_class_names, copy_methods,
+};
 use sqlite_items::Items;
 use std::alloc::Global;
 
-fn prop_built_at(alloc: Global, trees: &[ClassTree], hierarchy: &Hierarchy, tables: &Tables, spot: Spot) -> Result<Option<Prop>, NoMemory>
+fn prop_built_at(
+    alloc: Global,
+    trees: &[ClassTree],
+    hierarchy: &Hierarchy,
+    tables: &Tables,
+    spot: Spot,
+) -> Result<Option<Prop>, NoMemory>
     ensures { IfOk result (λ prop. prop ≡ option_and_then (prop_of (seen hierarchy.now tables.now)) (prop_at trees.now spot)) }
 {
     match prop_at_spot(trees, spot) {
@@ -24,7 +32,14 @@ fn prop_built_at(alloc: Global, trees: &[ClassTree], hierarchy: &Hierarchy, tabl
     }
 }
 
-fn push_props(alloc: Global, trees: &[ClassTree], hierarchy: &Hierarchy, tables: &Tables, spots: &[Spot], props: &mut Props) -> Result<(), NoMemory>
+fn push_props(
+    alloc: Global,
+    trees: &[ClassTree],
+    hierarchy: &Hierarchy,
+    tables: &Tables,
+    spots: &[Spot],
+    props: &mut Props,
+) -> Result<(), NoMemory>
     ensures { OnOk result (props.new ≡ props.old ++ filter_map (λ s. option_and_then (prop_of (seen hierarchy.now tables.now)) (prop_at trees.now s)) spots.now) }
 {
     if let Some((spot, rest)) = spots.split_first() {
@@ -36,7 +51,12 @@ fn push_props(alloc: Global, trees: &[ClassTree], hierarchy: &Hierarchy, tables:
     Ok(())
 }
 
-fn push_indexes(alloc: Global, trees: &[ClassTree], pairs: &[(Text, Spot)], indexes: &mut Indexes) -> Result<(), NoMemory>
+fn push_indexes(
+    alloc: Global,
+    trees: &[ClassTree],
+    pairs: &[(Text, Spot)],
+    indexes: &mut Indexes,
+) -> Result<(), NoMemory>
     ensures { OnOk result (indexes.new ≡ indexes.old ++ filter_map (index_at trees.now) (spots_in pairs.now)) }
 {
     if let Some((pair, rest)) = pairs.split_first() {
@@ -48,21 +68,40 @@ fn push_indexes(alloc: Global, trees: &[ClassTree], pairs: &[(Text, Spot)], inde
     Ok(())
 }
 
-fn build_props(alloc: Global, trees: &[ClassTree], hierarchy: &Hierarchy, tables: &Tables, class: usize) -> Result<Props, NoMemory>
+fn build_props(
+    alloc: Global,
+    trees: &[ClassTree],
+    hierarchy: &Hierarchy,
+    tables: &Tables,
+    class: usize,
+) -> Result<Props, NoMemory>
     ensures { IfOk result (λ props. props ≡ filter_map (λ s. option_and_then (prop_of (seen hierarchy.now tables.now)) (prop_at trees.now s)) (spots_in (props_in (seen hierarchy.now tables.now) class))) }
 {
     let mut props = Items::new(alloc);
     match tables.members.get(class) {
         Some(members) => {
             let spots = members.props.spots(alloc)?;
-            push_props(alloc, trees, hierarchy, tables, spots.as_slice(), &mut props)?;
+            push_props(
+                alloc,
+                trees,
+                hierarchy,
+                tables,
+                spots.as_slice(),
+                &mut props,
+            )?;
             Ok(props)
         }
         None => Ok(props),
     }
 }
 
-fn build_indexes(alloc: Global, trees: &[ClassTree], hierarchy: &Hierarchy, tables: &Tables, class: usize) -> Result<Indexes, NoMemory>
+fn build_indexes(
+    alloc: Global,
+    trees: &[ClassTree],
+    hierarchy: &Hierarchy,
+    tables: &Tables,
+    class: usize,
+) -> Result<Indexes, NoMemory>
     ensures { IfOk result (λ indexes. indexes ≡ filter_map (index_at trees.now) (spots_in (indexes_in (seen hierarchy.now tables.now) class))) }
 {
     let mut indexes = Items::new(alloc);
@@ -75,7 +114,14 @@ fn build_indexes(alloc: Global, trees: &[ClassTree], hierarchy: &Hierarchy, tabl
     }
 }
 
-fn build_class(alloc: Global, trees: &[ClassTree], hierarchy: &Hierarchy, tables: &Tables, class: usize, tree: &ClassTree) -> Result<Class, NoMemory>
+fn build_class(
+    alloc: Global,
+    trees: &[ClassTree],
+    hierarchy: &Hierarchy,
+    tables: &Tables,
+    class: usize,
+    tree: &ClassTree,
+) -> Result<Class, NoMemory>
     ensures { IfOk result (λ built. built ≡ class_with trees.now (seen hierarchy.now tables.now) class tree.now) }
 {
     let name = tree.name.copy(alloc)?;
@@ -83,10 +129,25 @@ fn build_class(alloc: Global, trees: &[ClassTree], hierarchy: &Hierarchy, tables
     let props = build_props(alloc, trees, hierarchy, tables, class)?;
     let indexes = build_indexes(alloc, trees, hierarchy, tables, class)?;
     let methods = copy_methods(alloc, tree.methods.as_slice())?;
-    Ok(Class { name, sort: sort_at(hierarchy, tables, class), supers, props, indexes, methods })
+    Ok(Class {
+        name,
+        sort: sort_at(hierarchy, tables, class),
+        supers,
+        props,
+        indexes,
+        methods,
+    })
 }
 
-fn push_classes(alloc: Global, trees: &[ClassTree], hierarchy: &Hierarchy, tables: &Tables, from: usize, rest: &[ClassTree], classes: &mut Classes) -> Result<(), NoMemory>
+fn push_classes(
+    alloc: Global,
+    trees: &[ClassTree],
+    hierarchy: &Hierarchy,
+    tables: &Tables,
+    from: usize,
+    rest: &[ClassTree],
+    classes: &mut Classes,
+) -> Result<(), NoMemory>
     requires { from + length rest.now < 2 ^ 63 }
     ensures { OnOk result (classes.new ≡ classes.old ++ classes_from trees.now (seen hierarchy.now tables.now) from rest.now) }
 {
@@ -98,7 +159,12 @@ fn push_classes(alloc: Global, trees: &[ClassTree], hierarchy: &Hierarchy, table
 }
 
 /// The classes of the schema, in the order of the files.
-pub fn build_classes(alloc: Global, trees: &[ClassTree], hierarchy: &Hierarchy, tables: &Tables) -> Result<Classes, NoMemory>
+pub fn build_classes(
+    alloc: Global,
+    trees: &[ClassTree],
+    hierarchy: &Hierarchy,
+    tables: &Tables,
+) -> Result<Classes, NoMemory>
     ensures { IfOk result (λ classes. classes ≡ classes_of trees.now (seen hierarchy.now tables.now)) }
 {
     let mut classes = Items::new(alloc);

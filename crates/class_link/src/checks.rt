@@ -10,9 +10,14 @@ ghost use Rattle.class_link.specs.Reasons.{same_kind, is_unknown, has_unknown, i
 use crate::members::own_props_of;
 use crate::props::{has_unknown_class, index_at_spot, is_named, is_same_kind, prop_at_spot};
 use crate::spots::{Spot, SpotTable};
-use crate::tables::{Tables, has_ids, has_storage, makes_parts, names_persistent, names_serial, names_unstored, system_sort_of};
+use crate::tables::{
+    Tables, has_ids, has_storage, makes_parts, names_persistent, names_serial, names_unstored,
+    system_sort_of,
+};
 use obj_kinds::{ClassName, Text};
-use schema_kinds::{ClassTree, Form, Hierarchy, Index, NameTable, PropTree, Sort, begins_with_percent};
+use schema_kinds::{
+    ClassTree, Form, Hierarchy, Index, NameTable, PropTree, Sort, begins_with_percent,
+};
 
 fn is_unknown_super(names: &NameTable, name: &ClassName) -> bool
     ensures { result ≡ is_unknown names.now name.now }
@@ -55,7 +60,9 @@ fn unknown_type_at(names: &NameTable, trees: &[ClassTree], spot: Spot) -> bool
 pub fn any_unknown_type(names: &NameTable, trees: &[ClassTree], spots: &[Spot]) -> bool
     ensures { result ≡ list_any (λ s. option_any (is_unknown_type names.now) (prop_at trees.now s)) spots.now }
 {
-    spots.iter().any(|spot| unknown_type_at(names, trees, *spot))
+    spots
+        .iter()
+        .any(|spot| unknown_type_at(names, trees, *spot))
 }
 
 fn is_persistent_later(hierarchy: &Hierarchy, tables: &Tables, name: &ClassName) -> bool
@@ -67,7 +74,9 @@ fn is_persistent_later(hierarchy: &Hierarchy, tables: &Tables, name: &ClassName)
 fn any_persistent_later(hierarchy: &Hierarchy, tables: &Tables, later: &[ClassName]) -> bool
     ensures { result ≡ list_any (λ t. not (is_system t) && is_class_of (seen hierarchy.now tables.now) is_persistent t) later.now }
 {
-    later.iter().any(|name| is_persistent_later(hierarchy, tables, name))
+    later
+        .iter()
+        .any(|name| is_persistent_later(hierarchy, tables, name))
 }
 
 /// Whether a superclass other than the first is persistent.
@@ -89,7 +98,12 @@ fn find_spot(hierarchy: &Hierarchy, tables: &Tables, class: usize, name: &Text) 
     }
 }
 
-fn find_inherited(hierarchy: &Hierarchy, tables: &Tables, name: &Text, supers: &[usize]) -> Option<Spot>
+fn find_inherited(
+    hierarchy: &Hierarchy,
+    tables: &Tables,
+    name: &Text,
+    supers: &[usize],
+) -> Option<Spot>
     ensures { result ≡ inherited_spot (seen hierarchy.now tables.now) name.now supers.now }
 {
     match supers.split_first() {
@@ -114,24 +128,47 @@ fn is_other_kind(trees: &[ClassTree], prop: &PropTree, inherited: Option<Spot>) 
 }
 
 /// Whether a property is declared again with another kind.
-pub fn any_other_kind(trees: &[ClassTree], hierarchy: &Hierarchy, tables: &Tables, supers: &[usize], props: &[PropTree]) -> bool
+pub fn any_other_kind(
+    trees: &[ClassTree],
+    hierarchy: &Hierarchy,
+    tables: &Tables,
+    supers: &[usize],
+    props: &[PropTree],
+) -> bool
     ensures { result ≡ list_any (changes_kind trees.now (seen hierarchy.now tables.now) supers.now) props.now }
 {
-    props.iter().any(|prop| is_other_kind(trees, prop, find_inherited(hierarchy, tables, &prop.name, supers)))
+    props.iter().any(|prop| is_other_kind(
+        trees,
+        prop,
+        find_inherited(hierarchy, tables, &prop.name, supers),
+    ))
 }
 
-fn is_bad_form(hierarchy: &Hierarchy, tables: &Tables, sort: Sort, of: &ClassName, form: &Form) -> bool
+fn is_bad_form(
+    hierarchy: &Hierarchy,
+    tables: &Tables,
+    sort: Sort,
+    of: &ClassName,
+    form: &Form,
+) -> bool
     ensures { result ≡ bad_form (seen hierarchy.now tables.now) sort of.now form.now }
 {
     match form {
         Form::Single => has_storage(sort) && names_unstored(hierarchy, tables, of),
         Form::List => has_storage(sort) && names_unstored(hierarchy, tables, of),
-        Form::Array => makes_parts(sort) || has_storage(sort) && names_unstored(hierarchy, tables, of),
+        Form::Array => makes_parts(sort)
+            || has_storage(sort) && names_unstored(hierarchy, tables, of),
         Form::Relation { .. } => !has_ids(sort) || !names_persistent(hierarchy, tables, of),
     }
 }
 
-fn bad_type_at(trees: &[ClassTree], hierarchy: &Hierarchy, tables: &Tables, sort: Sort, spot: Spot) -> bool
+fn bad_type_at(
+    trees: &[ClassTree],
+    hierarchy: &Hierarchy,
+    tables: &Tables,
+    sort: Sort,
+    spot: Spot,
+) -> bool
     ensures { result ≡ option_any (bad_type (seen hierarchy.now tables.now) sort) (prop_at trees.now spot) }
 {
     match prop_at_spot(trees, spot) {
@@ -141,10 +178,18 @@ fn bad_type_at(trees: &[ClassTree], hierarchy: &Hierarchy, tables: &Tables, sort
 }
 
 /// Whether a property has a type that a class of this sort can't hold.
-pub fn any_bad_type(trees: &[ClassTree], hierarchy: &Hierarchy, tables: &Tables, sort: Sort, spots: &[Spot]) -> bool
+pub fn any_bad_type(
+    trees: &[ClassTree],
+    hierarchy: &Hierarchy,
+    tables: &Tables,
+    sort: Sort,
+    spots: &[Spot],
+) -> bool
     ensures { result ≡ list_any (λ s. option_any (bad_type (seen hierarchy.now tables.now) sort) (prop_at trees.now s)) spots.now }
 {
-    spots.iter().any(|spot| bad_type_at(trees, hierarchy, tables, sort, *spot))
+    spots
+        .iter()
+        .any(|spot| bad_type_at(trees, hierarchy, tables, sort, *spot))
 }
 
 /// Whether the word is given.
@@ -164,7 +209,8 @@ fn is_form_to_come(form: &Form) -> bool
         Form::Single => false,
         Form::List => false,
         Form::Array => false,
-        Form::Relation { cardinality, .. } => says(cardinality, b"parent".as_slice()) || says(cardinality, b"children".as_slice()),
+        Form::Relation { cardinality, .. } => says(cardinality, b"parent".as_slice())
+            || says(cardinality, b"children".as_slice()),
     }
 }
 
@@ -187,26 +233,45 @@ pub fn any_to_come(trees: &[ClassTree], spots: &[Spot]) -> bool
 fn are_pair(left: &Option<Text>, right: &Option<Text>) -> bool
     ensures { result ≡ is_pair left.now right.now }
 {
-    says(left, b"one".as_slice()) && says(right, b"many".as_slice()) || says(left, b"many".as_slice()) && says(right, b"one".as_slice())
+    says(left, b"one".as_slice()) && says(right, b"many".as_slice())
+        || says(left, b"many".as_slice()) && says(right, b"one".as_slice())
 }
 
-fn answers(class: &ClassName, name: &Text, cardinality: &Option<Text>, of: &ClassName, form: &Form) -> bool
+fn answers(
+    class: &ClassName,
+    name: &Text,
+    cardinality: &Option<Text>,
+    of: &ClassName,
+    form: &Form,
+) -> bool
     ensures { result ≡ answers_side class.now name.now cardinality.now of.now form.now }
 {
     match form {
         Form::Single => false,
         Form::List => false,
         Form::Array => false,
-        Form::Relation { cardinality: other_cardinality, inverse } => {
-            is_named(of, class.0.as_slice()) && says(inverse, name.as_slice()) && are_pair(cardinality, other_cardinality)
+        Form::Relation {
+            cardinality: other_cardinality,
+            inverse,
+        } => {
+            is_named(of, class.0.as_slice())
+                && says(inverse, name.as_slice())
+                && are_pair(cardinality, other_cardinality)
         }
     }
 }
 
-fn is_inverse(class: &ClassName, name: &Text, cardinality: &Option<Text>, inverse: &Option<Text>, other: &PropTree) -> bool
+fn is_inverse(
+    class: &ClassName,
+    name: &Text,
+    cardinality: &Option<Text>,
+    inverse: &Option<Text>,
+    other: &PropTree,
+) -> bool
     ensures { result ≡ is_answer class.now name.now cardinality.now inverse.now other.now }
 {
-    says(inverse, other.name.as_slice()) && answers(class, name, cardinality, &other.of, &other.form)
+    says(inverse, other.name.as_slice())
+        && answers(class, name, cardinality, &other.of, &other.form)
 }
 
 fn props_named<'a>(trees: &'a [ClassTree], names: &NameTable, name: &ClassName) -> &'a [PropTree]
@@ -218,36 +283,68 @@ fn props_named<'a>(trees: &'a [ClassTree], names: &NameTable, name: &ClassName) 
     }
 }
 
-fn any_inverse(class: &ClassName, name: &Text, cardinality: &Option<Text>, inverse: &Option<Text>, others: &[PropTree]) -> bool
+fn any_inverse(
+    class: &ClassName,
+    name: &Text,
+    cardinality: &Option<Text>,
+    inverse: &Option<Text>,
+    others: &[PropTree],
+) -> bool
     ensures { result ≡ list_any (is_answer class.now name.now cardinality.now inverse.now) others.now }
 {
     others.iter().any(|other| is_inverse(class, name, cardinality, inverse, other))
 }
 
-fn has_no_answer(trees: &[ClassTree], hierarchy: &Hierarchy, tables: &Tables, class: &ClassName, prop: &PropTree) -> bool
+fn has_no_answer(
+    trees: &[ClassTree],
+    hierarchy: &Hierarchy,
+    tables: &Tables,
+    class: &ClassName,
+    prop: &PropTree,
+) -> bool
     ensures { result ≡ lacks_inverse trees.now (seen hierarchy.now tables.now) class.now prop.now.name prop.now.of prop.now.form }
 {
     match &prop.form {
         Form::Single => false,
         Form::List => false,
         Form::Array => false,
-        Form::Relation { cardinality, inverse } => {
-            !any_inverse(class, &prop.name, cardinality, inverse, props_named(trees, &hierarchy.names, &prop.of))
+        Form::Relation {
+            cardinality,
+            inverse,
+        } => {
+            !any_inverse(
+                class,
+                &prop.name,
+                cardinality,
+                inverse,
+                props_named(trees, &hierarchy.names, &prop.of),
+            )
         }
     }
 }
 
 /// Whether a side that the class declares has no fitting inverse.
-pub fn any_without_inverse(trees: &[ClassTree], hierarchy: &Hierarchy, tables: &Tables, tree: &ClassTree) -> bool
+pub fn any_without_inverse(
+    trees: &[ClassTree],
+    hierarchy: &Hierarchy,
+    tables: &Tables,
+    tree: &ClassTree,
+) -> bool
     ensures { result ≡ lacks_other_side trees.now (seen hierarchy.now tables.now) tree.now }
 {
-    tree.props.as_slice().iter().any(|prop| has_no_answer(trees, hierarchy, tables, &tree.name, prop))
+    tree.props.as_slice().iter().any(|prop| has_no_answer(
+        trees, hierarchy, tables, &tree.name, prop,
+    ))
 }
 
 fn has_unknown_prop(props: &SpotTable, index: &Index) -> bool
     ensures { result ≡ names_unknown props.now index.now }
 {
-    index.props.as_slice().iter().any(|name| props.find(name).is_none())
+    index
+        .props
+        .as_slice()
+        .iter()
+        .any(|name| props.find(name).is_none())
 }
 
 fn unknown_prop_at(trees: &[ClassTree], props: &SpotTable, spot: Spot) -> bool
@@ -263,7 +360,9 @@ fn unknown_prop_at(trees: &[ClassTree], props: &SpotTable, spot: Spot) -> bool
 pub fn any_unknown_prop(trees: &[ClassTree], props: &SpotTable, indexes: &[(Text, Spot)]) -> bool
     ensures { result ≡ any_index trees.now indexes.now (names_unknown props.now) }
 {
-    indexes.iter().any(|pair| unknown_prop_at(trees, props, pair.1))
+    indexes
+        .iter()
+        .any(|pair| unknown_prop_at(trees, props, pair.1))
 }
 
 fn cannot_be_indexed(hierarchy: &Hierarchy, tables: &Tables, prop: &PropTree) -> bool
@@ -277,7 +376,13 @@ fn cannot_be_indexed(hierarchy: &Hierarchy, tables: &Tables, prop: &PropTree) ->
     }
 }
 
-fn is_unindexed_name(trees: &[ClassTree], hierarchy: &Hierarchy, tables: &Tables, props: &SpotTable, name: &Text) -> bool
+fn is_unindexed_name(
+    trees: &[ClassTree],
+    hierarchy: &Hierarchy,
+    tables: &Tables,
+    props: &SpotTable,
+    name: &Text,
+) -> bool
     ensures { result ≡ option_any (λ p. is_unindexed (seen hierarchy.now tables.now) p.of p.form) (option_and_then (prop_at trees.now) (spot_of name.now props.now)) }
 {
     match props.find(name) {
@@ -289,13 +394,27 @@ fn is_unindexed_name(trees: &[ClassTree], hierarchy: &Hierarchy, tables: &Tables
     }
 }
 
-fn has_unindexed(trees: &[ClassTree], hierarchy: &Hierarchy, tables: &Tables, props: &SpotTable, index: &Index) -> bool
+fn has_unindexed(
+    trees: &[ClassTree],
+    hierarchy: &Hierarchy,
+    tables: &Tables,
+    props: &SpotTable,
+    index: &Index,
+) -> bool
     ensures { result ≡ names_unindexed trees.now (seen hierarchy.now tables.now) props.now index.now }
 {
-    index.props.as_slice().iter().any(|name| is_unindexed_name(trees, hierarchy, tables, props, name))
+    index.props.as_slice().iter().any(|name| is_unindexed_name(
+        trees, hierarchy, tables, props, name,
+    ))
 }
 
-fn unindexed_at(trees: &[ClassTree], hierarchy: &Hierarchy, tables: &Tables, props: &SpotTable, spot: Spot) -> bool
+fn unindexed_at(
+    trees: &[ClassTree],
+    hierarchy: &Hierarchy,
+    tables: &Tables,
+    props: &SpotTable,
+    spot: Spot,
+) -> bool
     ensures { result ≡ option_any (names_unindexed trees.now (seen hierarchy.now tables.now) props.now) (index_at trees.now spot) }
 {
     match index_at_spot(trees, spot) {
@@ -305,7 +424,13 @@ fn unindexed_at(trees: &[ClassTree], hierarchy: &Hierarchy, tables: &Tables, pro
 }
 
 /// Whether an index names a serial part, a collection or a many side.
-pub fn any_unindexed(trees: &[ClassTree], hierarchy: &Hierarchy, tables: &Tables, props: &SpotTable, indexes: &[(Text, Spot)]) -> bool
+pub fn any_unindexed(
+    trees: &[ClassTree],
+    hierarchy: &Hierarchy,
+    tables: &Tables,
+    props: &SpotTable,
+    indexes: &[(Text, Spot)],
+) -> bool
     ensures { result ≡ any_index trees.now indexes.now (names_unindexed trees.now (seen hierarchy.now tables.now) props.now) }
 {
     indexes.iter().any(|pair| unindexed_at(trees, hierarchy, tables, props, pair.1))

@@ -31,7 +31,11 @@ fn push_true(rows: &[Items<usize>], marks: &mut Marks) -> Result<(), NoMemory>
     Ok(())
 }
 
-fn push_marks_below(rows: &[Items<usize>], above: &[bool], marks: &mut Marks) -> Result<(), NoMemory>
+fn push_marks_below(
+    rows: &[Items<usize>],
+    above: &[bool],
+    marks: &mut Marks,
+) -> Result<(), NoMemory>
     ensures { OnOk result (marks.new ≡ marks.old ++ any_marks above.now rows.now) }
 {
     if let Some((row, rest)) = rows.split_first() {
@@ -74,7 +78,11 @@ fn find_part(hierarchy: &Hierarchy, tables: &Tables, name: &ClassName) -> Option
     ensures { result ≡ part_place (seen hierarchy.now tables.now) name.now }
 {
     match hierarchy.names.place(&name.0) {
-        Some(place) => if makes_parts(sort_at(hierarchy, tables, place)) { Some(place) } else { None },
+        Some(place) => if makes_parts(sort_at(hierarchy, tables, place)) {
+            Some(place)
+        } else {
+            None
+        },
         None => None,
     }
 }
@@ -99,7 +107,13 @@ fn part_at(trees: &[ClassTree], hierarchy: &Hierarchy, tables: &Tables, spot: Sp
     }
 }
 
-fn push_parts(trees: &[ClassTree], hierarchy: &Hierarchy, tables: &Tables, spots: &[Spot], parts: &mut Items<usize>) -> Result<(), NoMemory>
+fn push_parts(
+    trees: &[ClassTree],
+    hierarchy: &Hierarchy,
+    tables: &Tables,
+    spots: &[Spot],
+    parts: &mut Items<usize>,
+) -> Result<(), NoMemory>
     ensures { OnOk result (parts.new ≡ parts.old ++ filter_map (λ s. option_and_then (part_of (seen hierarchy.now tables.now)) (prop_at trees.now s)) spots.now) }
 {
     if let Some((spot, rest)) = spots.split_first() {
@@ -112,7 +126,13 @@ fn push_parts(trees: &[ClassTree], hierarchy: &Hierarchy, tables: &Tables, spots
 }
 
 /// The classes of the parts that these properties have.
-pub fn find_parts(alloc: Global, trees: &[ClassTree], hierarchy: &Hierarchy, tables: &Tables, spots: &[Spot]) -> Result<Items<usize>, NoMemory>
+pub fn find_parts(
+    alloc: Global,
+    trees: &[ClassTree],
+    hierarchy: &Hierarchy,
+    tables: &Tables,
+    spots: &[Spot],
+) -> Result<Items<usize>, NoMemory>
     ensures { IfOk result (λ parts. parts ≡ filter_map (λ s. option_and_then (part_of (seen hierarchy.now tables.now)) (prop_at trees.now s)) spots.now) }
 {
     let mut parts = Items::new(alloc);

@@ -34,7 +34,11 @@ fn side_at(trees: &[ClassTree], spot: Spot) -> Option<Entry>
     match prop_at_spot(trees, spot) {
         Some(prop) => {
             if is_one(&prop.form) {
-                Some(Entry { is_side: true, spot, on: None })
+                Some(Entry {
+                    is_side: true,
+                    spot,
+                    on: None,
+                })
             } else {
                 None
             }
@@ -47,7 +51,11 @@ fn find_only(props: &SpotTable, names: &[Text]) -> Option<Spot>
     ensures { result ≡ only_on props.now names.now }
 {
     match names.split_first() {
-        Some((name, rest)) => if rest.is_empty() { props.find(name) } else { None },
+        Some((name, rest)) => if rest.is_empty() {
+            props.find(name)
+        } else {
+            None
+        },
         None => None,
     }
 }
@@ -66,12 +74,20 @@ fn index_entry_at(trees: &[ClassTree], props: &SpotTable, spot: Spot) -> Option<
     ensures { result ≡ index_entry trees.now props.now spot }
 {
     match index_at_spot(trees, spot) {
-        Some(index) => Some(Entry { is_side: false, spot, on: find_alone(props, index) }),
+        Some(index) => Some(Entry {
+            is_side: false,
+            spot,
+            on: find_alone(props, index),
+        }),
         None => None,
     }
 }
 
-fn push_sides(trees: &[ClassTree], spots: &[Spot], entries: &mut Items<Entry>) -> Result<(), NoMemory>
+fn push_sides(
+    trees: &[ClassTree],
+    spots: &[Spot],
+    entries: &mut Items<Entry>,
+) -> Result<(), NoMemory>
     ensures { OnOk result (entries.new ≡ entries.old ++ filter_map (side_entry trees.now) spots.now) }
 {
     if let Some((spot, rest)) = spots.split_first() {
@@ -83,7 +99,12 @@ fn push_sides(trees: &[ClassTree], spots: &[Spot], entries: &mut Items<Entry>) -
     Ok(())
 }
 
-fn push_index_entries(trees: &[ClassTree], props: &SpotTable, pairs: &[(Text, Spot)], entries: &mut Items<Entry>) -> Result<(), NoMemory>
+fn push_index_entries(
+    trees: &[ClassTree],
+    props: &SpotTable,
+    pairs: &[(Text, Spot)],
+    entries: &mut Items<Entry>,
+) -> Result<(), NoMemory>
     ensures { OnOk result (entries.new ≡ entries.old ++ filter_map (index_entry trees.now props.now) (spots_in pairs.now)) }
 {
     if let Some((pair, rest)) = pairs.split_first() {
@@ -96,13 +117,23 @@ fn push_index_entries(trees: &[ClassTree], props: &SpotTable, pairs: &[(Text, Sp
 }
 
 /// What the objects of a class with these members have entries of.
-pub fn find_entries(alloc: Global, trees: &[ClassTree], members: &Members, spots: &[Spot]) -> Result<Items<Entry>, NoMemory>
+pub fn find_entries(
+    alloc: Global,
+    trees: &[ClassTree],
+    members: &Members,
+    spots: &[Spot],
+) -> Result<Items<Entry>, NoMemory>
     requires { spots.now ≡ spots_in members.now.props }
     ensures { IfOk result (λ entries. entries ≡ entries_with trees.now members.now.props members.now.indexes) }
 {
     let mut entries = Items::new(alloc);
     push_sides(trees, spots, &mut entries)?;
-    push_index_entries(trees, &members.props, members.indexes.as_slice(), &mut entries)?;
+    push_index_entries(
+        trees,
+        &members.props,
+        members.indexes.as_slice(),
+        &mut entries,
+    )?;
     Ok(entries)
 }
 
@@ -202,7 +233,10 @@ fn have_one_name(trees: &[ClassTree], left: Entry, right: Entry) -> bool
 fn clash(trees: &[ClassTree], left: Entry, right: Entry) -> bool
     ensures { result ≡ clashes trees.now left right }
 {
-    have_one_name(trees, left, right) && !is_index(left, right) && !has_on(left, right) && !has_on(right, left)
+    have_one_name(trees, left, right)
+        && !is_index(left, right)
+        && !has_on(left, right)
+        && !has_on(right, left)
 }
 
 fn any_clash_with(trees: &[ClassTree], entry: Entry, extent: &[Entry]) -> bool
@@ -215,7 +249,9 @@ fn any_clash_with(trees: &[ClassTree], entry: Entry, extent: &[Entry]) -> bool
 pub fn any_clash(trees: &[ClassTree], entries: &[Entry], extent: &[Entry]) -> bool
     ensures { result ≡ clash_in trees.now entries.now extent.now }
 {
-    entries.iter().any(|entry| any_clash_with(trees, *entry, extent))
+    entries
+        .iter()
+        .any(|entry| any_clash_with(trees, *entry, extent))
 }
 
 fn has_spot(spots: &[Spot], spot: Spot) -> bool

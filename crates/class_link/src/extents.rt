@@ -24,7 +24,13 @@ fn is_below_root(hierarchy: &Hierarchy, tables: &Tables, root: usize, class: usi
         }
 }
 
-fn class_entries(alloc: Global, trees: &[ClassTree], hierarchy: &Hierarchy, tables: &Tables, class: usize) -> Result<Items<Entry>, NoMemory>
+fn class_entries(
+    alloc: Global,
+    trees: &[ClassTree],
+    hierarchy: &Hierarchy,
+    tables: &Tables,
+    class: usize,
+) -> Result<Items<Entry>, NoMemory>
     ensures { IfOk result (λ entries. entries ≡ entries_in trees.now (seen hierarchy.now tables.now) class) }
 {
     match tables.members.get(class) {
@@ -37,7 +43,15 @@ fn class_entries(alloc: Global, trees: &[ClassTree], hierarchy: &Hierarchy, tabl
     }
 }
 
-fn add_class_entries(alloc: Global, trees: &[ClassTree], hierarchy: &Hierarchy, tables: &Tables, root: usize, class: usize, entries: &mut Items<Entry>) -> Result<(), NoMemory>
+fn add_class_entries(
+    alloc: Global,
+    trees: &[ClassTree],
+    hierarchy: &Hierarchy,
+    tables: &Tables,
+    root: usize,
+    class: usize,
+    entries: &mut Items<Entry>,
+) -> Result<(), NoMemory>
     ensures { OnOk result (entries.new ≡ add_entries_if (is_in_extent (seen hierarchy.now tables.now) root class) entries.old (entries_in trees.now (seen hierarchy.now tables.now) class)) }
 {
     if is_below_root(hierarchy, tables, root, class) {
@@ -47,7 +61,16 @@ fn add_class_entries(alloc: Global, trees: &[ClassTree], hierarchy: &Hierarchy, 
     Ok(())
 }
 
-fn add_extent(alloc: Global, trees: &[ClassTree], hierarchy: &Hierarchy, tables: &Tables, root: usize, from: usize, count: usize, entries: &mut Items<Entry>) -> Result<(), NoMemory>
+fn add_extent(
+    alloc: Global,
+    trees: &[ClassTree],
+    hierarchy: &Hierarchy,
+    tables: &Tables,
+    root: usize,
+    from: usize,
+    count: usize,
+    entries: &mut Items<Entry>,
+) -> Result<(), NoMemory>
     requires { from + count < 2 ^ 63 }
     ensures { OnOk result (entries.new ≡ fold (λ entries i. add_entries_if (is_in_extent (seen hierarchy.now tables.now) root i) entries (entries_in trees.now (seen hierarchy.now tables.now) i)) entries.old (count_from from count)) }
 {
@@ -55,19 +78,51 @@ fn add_extent(alloc: Global, trees: &[ClassTree], hierarchy: &Hierarchy, tables:
         return Ok(());
     }
     add_class_entries(alloc, trees, hierarchy, tables, root, from, entries)?;
-    add_extent(alloc, trees, hierarchy, tables, root, from + 1, count - 1, entries)?;
+    add_extent(
+        alloc,
+        trees,
+        hierarchy,
+        tables,
+        root,
+        from + 1,
+        count - 1,
+        entries,
+    )?;
     Ok(())
 }
 
-fn find_extent(alloc: Global, trees: &[ClassTree], hierarchy: &Hierarchy, tables: &Tables, root: usize) -> Result<Items<Entry>, NoMemory>
+fn find_extent(
+    alloc: Global,
+    trees: &[ClassTree],
+    hierarchy: &Hierarchy,
+    tables: &Tables,
+    root: usize,
+) -> Result<Items<Entry>, NoMemory>
     ensures { IfOk result (λ entries. entries ≡ extent_entries trees.now (seen hierarchy.now tables.now) root) }
 {
     let mut entries = Items::new(alloc);
-    add_extent(alloc, trees, hierarchy, tables, root, 0, trees.len(), &mut entries)?;
+    add_extent(
+        alloc,
+        trees,
+        hierarchy,
+        tables,
+        root,
+        0,
+        trees.len(),
+        &mut entries,
+    )?;
     Ok(entries)
 }
 
-fn push_extents(alloc: Global, trees: &[ClassTree], hierarchy: &Hierarchy, tables: &Tables, from: usize, count: usize, extents: &mut Items<Items<Entry>>) -> Result<(), NoMemory>
+fn push_extents(
+    alloc: Global,
+    trees: &[ClassTree],
+    hierarchy: &Hierarchy,
+    tables: &Tables,
+    from: usize,
+    count: usize,
+    extents: &mut Items<Items<Entry>>,
+) -> Result<(), NoMemory>
     requires { from + count < 2 ^ 63 }
     ensures { OnOk result (extents.new ≡ extents.old ++ map (extent_entries trees.now (seen hierarchy.now tables.now)) (count_from from count)) }
 {
@@ -75,20 +130,47 @@ fn push_extents(alloc: Global, trees: &[ClassTree], hierarchy: &Hierarchy, table
         return Ok(());
     }
     extents.push(find_extent(alloc, trees, hierarchy, tables, from)?)?;
-    push_extents(alloc, trees, hierarchy, tables, from + 1, count - 1, extents)?;
+    push_extents(
+        alloc,
+        trees,
+        hierarchy,
+        tables,
+        from + 1,
+        count - 1,
+        extents,
+    )?;
     Ok(())
 }
 
 /// For each class the entries of the extent of which it is the root.
-pub fn find_extents(alloc: Global, trees: &[ClassTree], hierarchy: &Hierarchy, tables: &Tables) -> Result<Items<Items<Entry>>, NoMemory>
+pub fn find_extents(
+    alloc: Global,
+    trees: &[ClassTree],
+    hierarchy: &Hierarchy,
+    tables: &Tables,
+) -> Result<Items<Items<Entry>>, NoMemory>
     ensures { IfOk result (λ extents. extents ≡ map (extent_entries trees.now (seen hierarchy.now tables.now)) (count_from 0 (length trees.now))) }
 {
     let mut extents = Items::new(alloc);
-    push_extents(alloc, trees, hierarchy, tables, 0, trees.len(), &mut extents)?;
+    push_extents(
+        alloc,
+        trees,
+        hierarchy,
+        tables,
+        0,
+        trees.len(),
+        &mut extents,
+    )?;
     Ok(extents)
 }
 
-fn class_parts(alloc: Global, trees: &[ClassTree], hierarchy: &Hierarchy, tables: &Tables, class: usize) -> Result<Items<usize>, NoMemory>
+fn class_parts(
+    alloc: Global,
+    trees: &[ClassTree],
+    hierarchy: &Hierarchy,
+    tables: &Tables,
+    class: usize,
+) -> Result<Items<usize>, NoMemory>
     ensures { IfOk result (λ parts. parts ≡ parts_in trees.now (seen hierarchy.now tables.now) class) }
 {
     match tables.members.get(class) {
@@ -101,7 +183,15 @@ fn class_parts(alloc: Global, trees: &[ClassTree], hierarchy: &Hierarchy, tables
     }
 }
 
-fn push_parts_of(alloc: Global, trees: &[ClassTree], hierarchy: &Hierarchy, tables: &Tables, from: usize, count: usize, links: &mut Links) -> Result<(), NoMemory>
+fn push_parts_of(
+    alloc: Global,
+    trees: &[ClassTree],
+    hierarchy: &Hierarchy,
+    tables: &Tables,
+    from: usize,
+    count: usize,
+    links: &mut Links,
+) -> Result<(), NoMemory>
     requires { from + count < 2 ^ 63 }
     ensures { OnOk result (links.new ≡ links.old ++ map (parts_in trees.now (seen hierarchy.now tables.now)) (count_from from count)) }
 {
@@ -114,7 +204,12 @@ fn push_parts_of(alloc: Global, trees: &[ClassTree], hierarchy: &Hierarchy, tabl
 }
 
 /// For each class the serial classes of its parts.
-pub fn find_part_links(alloc: Global, trees: &[ClassTree], hierarchy: &Hierarchy, tables: &Tables) -> Result<Links, NoMemory>
+pub fn find_part_links(
+    alloc: Global,
+    trees: &[ClassTree],
+    hierarchy: &Hierarchy,
+    tables: &Tables,
+) -> Result<Links, NoMemory>
     ensures { IfOk result (λ links. links ≡ part_links trees.now (seen hierarchy.now tables.now)) }
 {
     let mut links = Items::new(alloc);

@@ -22,7 +22,12 @@ fn sort_from(supers: &[ClassName]) -> Sort
     }
 }
 
-fn push_tops(hierarchy: &Hierarchy, from: usize, count: usize, tops: &mut Items<usize>) -> Result<(), NoMemory>
+fn push_tops(
+    hierarchy: &Hierarchy,
+    from: usize,
+    count: usize,
+    tops: &mut Items<usize>,
+) -> Result<(), NoMemory>
     requires { from + count < 2 ^ 63 }
     ensures { OnOk result (tops.new ≡ tops.old ++ map (λ i. top (length hierarchy.now.firsts) hierarchy.now.firsts i) (count_from from count)) }
 {
@@ -35,7 +40,11 @@ fn push_tops(hierarchy: &Hierarchy, from: usize, count: usize, tops: &mut Items<
 }
 
 /// The root above each class.
-pub fn find_tops(alloc: Global, hierarchy: &Hierarchy, count: usize) -> Result<Items<usize>, NoMemory>
+pub fn find_tops(
+    alloc: Global,
+    hierarchy: &Hierarchy,
+    count: usize,
+) -> Result<Items<usize>, NoMemory>
     requires { count < 2 ^ 63 }
     ensures { IfOk result (λ tops. tops ≡ map (λ i. top (length hierarchy.now.firsts) hierarchy.now.firsts i) (count_from 0 count)) }
 {
@@ -55,7 +64,11 @@ fn push_sorts(trees: &[ClassTree], tops: &[usize], sorts: &mut Items<Sort>) -> R
 }
 
 /// The sort of each class: that which the first superclass of its root gives.
-pub fn find_sorts(alloc: Global, trees: &[ClassTree], tops: &[usize]) -> Result<Items<Sort>, NoMemory>
+pub fn find_sorts(
+    alloc: Global,
+    trees: &[ClassTree],
+    tops: &[usize],
+) -> Result<Items<Sort>, NoMemory>
     ensures { IfOk result (λ sorts. sorts ≡ map (λ t. sort_above (supers_of (slice_get trees.now t))) tops.now) }
 {
     let mut sorts = Items::new(alloc);

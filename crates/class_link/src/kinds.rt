@@ -39,7 +39,12 @@ fn class_item_of(alloc: Global, name: &ClassName, sort: Sort) -> Result<Item, No
     }
 }
 
-fn listed_item_of(alloc: Global, hierarchy: &Hierarchy, tables: &Tables, name: &ClassName) -> Result<Option<Item>, NoMemory>
+fn listed_item_of(
+    alloc: Global,
+    hierarchy: &Hierarchy,
+    tables: &Tables,
+    name: &ClassName,
+) -> Result<Option<Item>, NoMemory>
     ensures { IfOk result (λ item. item ≡ listed_item (seen hierarchy.now tables.now) name.now) }
 {
     match hierarchy.names.place(&name.0) {
@@ -51,7 +56,12 @@ fn listed_item_of(alloc: Global, hierarchy: &Hierarchy, tables: &Tables, name: &
     }
 }
 
-fn find_item(alloc: Global, hierarchy: &Hierarchy, tables: &Tables, name: &ClassName) -> Result<Option<Item>, NoMemory>
+fn find_item(
+    alloc: Global,
+    hierarchy: &Hierarchy,
+    tables: &Tables,
+    name: &ClassName,
+) -> Result<Option<Item>, NoMemory>
     ensures { IfOk result (λ item. item ≡ item_of (seen hierarchy.now tables.now) name.now) }
 {
     if let Some(item) = data_item_of(name) {
@@ -73,7 +83,12 @@ fn single(item: Item) -> Kind
     }
 }
 
-fn side_of(alloc: Global, of: &ClassName, cardinality: &Text, inverse: &Text) -> Result<Option<Kind>, NoMemory>
+fn side_of(
+    alloc: Global,
+    of: &ClassName,
+    cardinality: &Text,
+    inverse: &Text,
+) -> Result<Option<Kind>, NoMemory>
     ensures { IfOk result (λ kind. kind ≡ side_with of.now cardinality.now inverse.now) }
 {
     if cardinality.as_slice() == b"many".as_slice() {
@@ -89,7 +104,12 @@ fn side_of(alloc: Global, of: &ClassName, cardinality: &Text, inverse: &Text) ->
     Ok(None)
 }
 
-fn find_side(alloc: Global, of: &ClassName, cardinality: &Option<Text>, inverse: &Option<Text>) -> Result<Option<Kind>, NoMemory>
+fn find_side(
+    alloc: Global,
+    of: &ClassName,
+    cardinality: &Option<Text>,
+    inverse: &Option<Text>,
+) -> Result<Option<Kind>, NoMemory>
     ensures { IfOk result (λ kind. kind ≡ side_kind of.now cardinality.now inverse.now) }
 {
     match cardinality {
@@ -104,7 +124,13 @@ fn find_side(alloc: Global, of: &ClassName, cardinality: &Option<Text>, inverse:
     }
 }
 
-fn find_kind(alloc: Global, hierarchy: &Hierarchy, tables: &Tables, of: &ClassName, form: &Form) -> Result<Option<Kind>, NoMemory>
+fn find_kind(
+    alloc: Global,
+    hierarchy: &Hierarchy,
+    tables: &Tables,
+    of: &ClassName,
+    form: &Form,
+) -> Result<Option<Kind>, NoMemory>
     ensures { IfOk result (λ kind. kind ≡ kind_by (seen hierarchy.now tables.now) of.now form.now) }
 {
     match form {
@@ -120,7 +146,10 @@ fn find_kind(alloc: Global, hierarchy: &Hierarchy, tables: &Tables, of: &ClassNa
             Some(item) => Ok(Some(Kind::ArrayOf(item))),
             None => Ok(None),
         },
-        Form::Relation { cardinality, inverse } => {
+        Form::Relation {
+            cardinality,
+            inverse,
+        } => {
             let kind = find_side(alloc, of, cardinality, inverse)?;
             Ok(kind)
         }
@@ -208,7 +237,11 @@ fn len_of(given: &Option<Text>) -> Option<u32>
 fn find_max_len(kind: &Kind, given: &Option<Text>) -> Option<u32>
     ensures { result ≡ max_len_of kind.now given.now }
 {
-    if holds_text(kind) { len_of(given) } else { None }
+    if holds_text(kind) {
+        len_of(given)
+    } else {
+        None
+    }
 }
 
 fn find_bound(kind: &Kind, given: &Option<Text>) -> Option<i64>
@@ -224,7 +257,12 @@ fn find_bound(kind: &Kind, given: &Option<Text>) -> Option<i64>
 }
 
 /// The property that its declaration means.
-pub fn build_prop(alloc: Global, hierarchy: &Hierarchy, tables: &Tables, prop: &PropTree) -> Result<Option<Prop>, NoMemory>
+pub fn build_prop(
+    alloc: Global,
+    hierarchy: &Hierarchy,
+    tables: &Tables,
+    prop: &PropTree,
+) -> Result<Option<Prop>, NoMemory>
     ensures { IfOk result (λ built. built ≡ prop_of (seen hierarchy.now tables.now) prop.now) }
 {
     match find_kind(alloc, hierarchy, tables, &prop.of, &prop.form)? {
@@ -235,7 +273,15 @@ pub fn build_prop(alloc: Global, hierarchy: &Hierarchy, tables: &Tables, prop: &
             let max_len = find_max_len(&kind, &prop.max_len);
             let min_val = find_bound(&kind, &prop.min_val);
             let max_val = find_bound(&kind, &prop.max_val);
-            Ok(Some(Prop { name, kind, required: prop.required, initial, max_len, min_val, max_val }))
+            Ok(Some(Prop {
+                name,
+                kind,
+                required: prop.required,
+                initial,
+                max_len,
+                min_val,
+                max_val,
+            }))
         }
     }
 }

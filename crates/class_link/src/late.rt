@@ -8,7 +8,10 @@ ghost use Rattle.class_link.specs.Reasons.{has_serial_ring, has_kind_clash, has_
 ghost use Rattle.class_link.specs.Extents.{extent_of, extent_entries, entries_with, clash_in, repeats, subnodes, has_name_clash, declared_indexes, long_method, long_tree, long_index, has_too_many};
 ghost use Rattle.class_link.specs.Refusal.{test_with, shape_reasons, name_reasons, late_with};
 
-use crate::checks::{any_bad_type, any_other_kind, any_persistent, any_to_come, any_unindexed, any_unknown_prop, any_unknown_type, any_without_inverse};
+use crate::checks::{
+    any_bad_type, any_other_kind, any_persistent, any_to_come, any_unindexed, any_unknown_prop,
+    any_unknown_type, any_without_inverse,
+};
 use crate::entries::{any_clash, count_indexes, find_entries};
 use crate::entry::Entry;
 use crate::error::LinkWhy;
@@ -33,14 +36,30 @@ pub fn supers_named(trees: &[ClassTree], class: usize) -> &[ClassName]
     }
 }
 
-fn clashes_in_kind(trees: &[ClassTree], hierarchy: &Hierarchy, tables: &Tables, class: usize) -> bool
+fn clashes_in_kind(
+    trees: &[ClassTree],
+    hierarchy: &Hierarchy,
+    tables: &Tables,
+    class: usize,
+) -> bool
     ensures { result ≡ has_kind_clash trees.now (seen hierarchy.now tables.now) class }
 {
     any_persistent(hierarchy, tables, supers_named(trees, class))
-        || any_other_kind(trees, hierarchy, tables, supers_at(hierarchy, class), own_props_of(trees, class))
+        || any_other_kind(
+            trees,
+            hierarchy,
+            tables,
+            supers_at(hierarchy, class),
+            own_props_of(trees, class),
+        )
 }
 
-fn lacks_an_inverse(trees: &[ClassTree], hierarchy: &Hierarchy, tables: &Tables, class: usize) -> bool
+fn lacks_an_inverse(
+    trees: &[ClassTree],
+    hierarchy: &Hierarchy,
+    tables: &Tables,
+    class: usize,
+) -> bool
     ensures { result ≡ has_no_inverse trees.now (seen hierarchy.now tables.now) class }
 {
     match trees.get(class) {
@@ -100,7 +119,16 @@ fn any_long_index(trees: &[ClassTree], indexes: &[(Text, Spot)]) -> bool
     indexes.iter().any(|pair| long_index_at(trees, pair.1))
 }
 
-fn clashes_in_name(alloc: Global, trees: &[ClassTree], hierarchy: &Hierarchy, tables: &Tables, extent: &[Entry], class: usize, members: &Members, spots: &[Spot]) -> Result<bool, NoMemory>
+fn clashes_in_name(
+    alloc: Global,
+    trees: &[ClassTree],
+    hierarchy: &Hierarchy,
+    tables: &Tables,
+    extent: &[Entry],
+    class: usize,
+    members: &Members,
+    spots: &[Spot],
+) -> Result<bool, NoMemory>
     requires spots { spots.now ≡ spots_in members.now.props }
     requires extent { extent.now ≡ extent_of trees.now (seen hierarchy.now tables.now) class }
     ensures { IfOk result (λ answer. answer ≡ has_name_clash trees.now (seen hierarchy.now tables.now) class members.now.props members.now.indexes) }
@@ -117,7 +145,14 @@ fn clashes_in_name(alloc: Global, trees: &[ClassTree], hierarchy: &Hierarchy, ta
     Ok(answer)
 }
 
-fn has_crowded_extent(alloc: Global, trees: &[ClassTree], hierarchy: &Hierarchy, tables: &Tables, extent: &[Entry], class: usize) -> Result<bool, NoMemory>
+fn has_crowded_extent(
+    alloc: Global,
+    trees: &[ClassTree],
+    hierarchy: &Hierarchy,
+    tables: &Tables,
+    extent: &[Entry],
+    class: usize,
+) -> Result<bool, NoMemory>
     requires extent { extent.now ≡ extent_of trees.now (seen hierarchy.now tables.now) class }
     ensures { IfOk result (λ answer. answer ≡ (is_persistent (sort_in (seen hierarchy.now tables.now) class) && nat_lt 50 (length (declared_indexes (extent_of trees.now (seen hierarchy.now tables.now) class))))) }
 {
@@ -128,20 +163,43 @@ fn has_crowded_extent(alloc: Global, trees: &[ClassTree], hierarchy: &Hierarchy,
     Ok(count > 50)
 }
 
-fn passes_limit(alloc: Global, trees: &[ClassTree], hierarchy: &Hierarchy, tables: &Tables, extent: &[Entry], is_deep: bool, class: usize, members: &Members, spots: &[Spot]) -> Result<bool, NoMemory>
+fn passes_limit(
+    alloc: Global,
+    trees: &[ClassTree],
+    hierarchy: &Hierarchy,
+    tables: &Tables,
+    extent: &[Entry],
+    is_deep: bool,
+    class: usize,
+    members: &Members,
+    spots: &[Spot],
+) -> Result<bool, NoMemory>
     requires spots { spots.now ≡ spots_in members.now.props }
     requires extent { extent.now ≡ extent_of trees.now (seen hierarchy.now tables.now) class }
     requires deep { is_deep ≡ climbs 17 hierarchy.now.links class }
     ensures { IfOk result (λ answer. answer ≡ has_too_many trees.now (seen hierarchy.now tables.now) class members.now.props members.now.indexes) }
 {
-    if class == 500 || is_deep || spots.len() > 200 || has_long_methods(trees, class) || any_long_index(trees, members.indexes.as_slice()) {
+    if class == 500
+        || is_deep
+        || spots.len() > 200
+        || has_long_methods(trees, class)
+        || any_long_index(trees, members.indexes.as_slice())
+    {
         return Ok(true);
     }
     let answer = has_crowded_extent(alloc, trees, hierarchy, tables, extent, class)?;
     Ok(answer)
 }
 
-fn shape_reason(trees: &[ClassTree], hierarchy: &Hierarchy, tables: &Tables, is_nested: bool, class: usize, members: &Members, spots: &[Spot]) -> Option<LinkWhy>
+fn shape_reason(
+    trees: &[ClassTree],
+    hierarchy: &Hierarchy,
+    tables: &Tables,
+    is_nested: bool,
+    class: usize,
+    members: &Members,
+    spots: &[Spot],
+) -> Option<LinkWhy>
     requires spots { spots.now ≡ spots_in members.now.props }
     requires nested { is_nested ≡ has_serial_ring trees.now (seen hierarchy.now tables.now) class }
     ensures { result ≡ find (test_with trees.now (seen hierarchy.now tables.now) class members.now.props members.now.indexes) shape_reasons }
@@ -149,7 +207,13 @@ fn shape_reason(trees: &[ClassTree], hierarchy: &Hierarchy, tables: &Tables, is_
     if clashes_in_kind(trees, hierarchy, tables, class) {
         return Some(LinkWhy::KindClash);
     }
-    if any_bad_type(trees, hierarchy, tables, sort_at(hierarchy, tables, class), spots) {
+    if any_bad_type(
+        trees,
+        hierarchy,
+        tables,
+        sort_at(hierarchy, tables, class),
+        spots,
+    ) {
         return Some(LinkWhy::BadType);
     }
     if is_nested {
@@ -164,7 +228,17 @@ fn shape_reason(trees: &[ClassTree], hierarchy: &Hierarchy, tables: &Tables, is_
     None
 }
 
-fn name_reason(alloc: Global, trees: &[ClassTree], hierarchy: &Hierarchy, tables: &Tables, extent: &[Entry], is_deep: bool, class: usize, members: &Members, spots: &[Spot]) -> Result<Option<LinkWhy>, NoMemory>
+fn name_reason(
+    alloc: Global,
+    trees: &[ClassTree],
+    hierarchy: &Hierarchy,
+    tables: &Tables,
+    extent: &[Entry],
+    is_deep: bool,
+    class: usize,
+    members: &Members,
+    spots: &[Spot],
+) -> Result<Option<LinkWhy>, NoMemory>
     requires spots { spots.now ≡ spots_in members.now.props }
     requires extent { extent.now ≡ extent_of trees.now (seen hierarchy.now tables.now) class }
     requires deep { is_deep ≡ climbs 17 hierarchy.now.links class }
@@ -173,32 +247,70 @@ fn name_reason(alloc: Global, trees: &[ClassTree], hierarchy: &Hierarchy, tables
     if any_unknown_prop(trees, &members.props, members.indexes.as_slice()) {
         return Ok(Some(LinkWhy::UnknownIndexProperty));
     }
-    if any_unindexed(trees, hierarchy, tables, &members.props, members.indexes.as_slice()) {
+    if any_unindexed(
+        trees,
+        hierarchy,
+        tables,
+        &members.props,
+        members.indexes.as_slice(),
+    ) {
         return Ok(Some(LinkWhy::BadIndexProperty));
     }
-    if clashes_in_name(alloc, trees, hierarchy, tables, extent, class, members, spots)? {
+    if clashes_in_name(
+        alloc, trees, hierarchy, tables, extent, class, members, spots,
+    )? {
         return Ok(Some(LinkWhy::NameClash));
     }
     if any_bad_parameter(trees, spots) {
         return Ok(Some(LinkWhy::BadParameter));
     }
-    if passes_limit(alloc, trees, hierarchy, tables, extent, is_deep, class, members, spots)? {
+    if passes_limit(
+        alloc, trees, hierarchy, tables, extent, is_deep, class, members, spots,
+    )? {
         return Ok(Some(LinkWhy::TooMany));
     }
     Ok(None)
 }
 
 /// The first reason of the last group that a class with these members has.
-pub fn late_with(alloc: Global, trees: &[ClassTree], hierarchy: &Hierarchy, tables: &Tables, extent: &[Entry], is_nested: bool, is_deep: bool, class: usize, members: &Members) -> Result<Option<LinkWhy>, NoMemory>
+pub fn late_with(
+    alloc: Global,
+    trees: &[ClassTree],
+    hierarchy: &Hierarchy,
+    tables: &Tables,
+    extent: &[Entry],
+    is_nested: bool,
+    is_deep: bool,
+    class: usize,
+    members: &Members,
+) -> Result<Option<LinkWhy>, NoMemory>
     requires extent { extent.now ≡ extent_of trees.now (seen hierarchy.now tables.now) class }
     requires nested { is_nested ≡ has_serial_ring trees.now (seen hierarchy.now tables.now) class }
     requires deep { is_deep ≡ climbs 17 hierarchy.now.links class }
     ensures { IfOk result (λ why. why ≡ late_with trees.now (seen hierarchy.now tables.now) class members.now.props members.now.indexes) }
 {
     let spots = members.props.spots(alloc)?;
-    if let Some(why) = shape_reason(trees, hierarchy, tables, is_nested, class, members, spots.as_slice()) {
+    if let Some(why) = shape_reason(
+        trees,
+        hierarchy,
+        tables,
+        is_nested,
+        class,
+        members,
+        spots.as_slice(),
+    ) {
         return Ok(Some(why));
     }
-    let why = name_reason(alloc, trees, hierarchy, tables, extent, is_deep, class, members, spots.as_slice())?;
+    let why = name_reason(
+        alloc,
+        trees,
+        hierarchy,
+        tables,
+        extent,
+        is_deep,
+        class,
+        members,
+        spots.as_slice(),
+    )?;
     Ok(why)
 }

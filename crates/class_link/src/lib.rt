@@ -25,5 +25,5 @@ pub use error::{LinkError, LinkWhy};
 pub use linking::link;
 pub use members::{Members, gather_all};
 pub use props::{has_unknown_class, index_at_spot, is_same_kind, prop_at_spot};
-pub use tables::Tables;
 pub use spots::{Spot, SpotTable};
+pub use tables::Tables;

@@ -22,7 +22,9 @@ use crate::passes::{add_names, find_headers, first_super_reason, first_type_reas
 use crate::spots::SpotTable;
 use crate::tables::Tables;
 use obj_kinds::{ClassName, NoMemory};
-use schema_kinds::{ClassTree, ClassTrees, Headers, Hierarchy, Marks, NameTable, Schema, is_marked};
+use schema_kinds::{
+    ClassTree, ClassTrees, Headers, Hierarchy, Marks, NameTable, Schema, is_marked,
+};
 use sqlite_items::Items;
 use std::alloc::Global;
 
@@ -81,7 +83,11 @@ fn check_supers(alloc: Global, trees: &[ClassTree], hierarchy: &Hierarchy) -> Re
     }
 }
 
-fn find_tables(alloc: Global, trees: &[ClassTree], hierarchy: &Hierarchy) -> Result<Tables, NoMemory>
+fn find_tables(
+    alloc: Global,
+    trees: &[ClassTree],
+    hierarchy: &Hierarchy,
+) -> Result<Tables, NoMemory>
     requires hierarchy { IsHierarchyOf (headers_of trees.now) hierarchy.now }
     requires before { NoneBelow trees.now 3 }
     ensures { IfOk result (λ tables. seen hierarchy.now tables ≡ facts_of trees.now) }
@@ -89,10 +95,19 @@ fn find_tables(alloc: Global, trees: &[ClassTree], hierarchy: &Hierarchy) -> Res
     let tops = find_tops(alloc, hierarchy, trees.len())?;
     let sorts = find_sorts(alloc, trees, tops.as_slice())?;
     let members = gather_all(alloc, trees, hierarchy)?;
-    Ok(Tables { sorts, tops, members })
+    Ok(Tables {
+        sorts,
+        tops,
+        members,
+    })
 }
 
-fn check_types(alloc: Global, trees: &[ClassTree], hierarchy: &Hierarchy, tables: &Tables) -> Result<(), LinkError>
+fn check_types(
+    alloc: Global,
+    trees: &[ClassTree],
+    hierarchy: &Hierarchy,
+    tables: &Tables,
+) -> Result<(), LinkError>
     requires facts { seen hierarchy.now tables.now ≡ facts_of trees.now }
     requires before { NoneBelow trees.now 3 }
     ensures none { OnOk result (NoneBelow trees.now 4) }
@@ -116,7 +131,16 @@ fn extent_at<'a>(tables: &Tables, extents: &'a [Items<Entry>], class: usize) -> 
     }
 }
 
-fn late_reason_of(alloc: Global, trees: &[ClassTree], hierarchy: &Hierarchy, tables: &Tables, extent: &[Entry], is_nested: bool, is_deep: bool, class: usize) -> Result<Option<LinkWhy>, NoMemory>
+fn late_reason_of(
+    alloc: Global,
+    trees: &[ClassTree],
+    hierarchy: &Hierarchy,
+    tables: &Tables,
+    extent: &[Entry],
+    is_nested: bool,
+    is_deep: bool,
+    class: usize,
+) -> Result<Option<LinkWhy>, NoMemory>
     requires extent { extent.now ≡ extent_of trees.now (seen hierarchy.now tables.now) class }
     requires nested { is_nested ≡ has_serial_ring trees.now (seen hierarchy.now tables.now) class }
     requires deep { is_deep ≡ climbs 17 hierarchy.now.links class }
@@ -124,12 +148,19 @@ fn late_reason_of(alloc: Global, trees: &[ClassTree], hierarchy: &Hierarchy, tab
 {
     match tables.members.get(class) {
         Some(members) => {
-            let why = late_with(alloc, trees, hierarchy, tables, extent, is_nested, is_deep, class, members)?;
+            let why = late_with(
+                alloc, trees, hierarchy, tables, extent, is_nested, is_deep, class, members,
+            )?;
             Ok(why)
         }
         None => {
-            let none = Members { props: SpotTable::new(alloc), indexes: Items::new(alloc) };
-            let why = late_with(alloc, trees, hierarchy, tables, extent, is_nested, is_deep, class, &none)?;
+            let none = Members {
+                props: SpotTable::new(alloc),
+                indexes: Items::new(alloc),
+            };
+            let why = late_with(
+                alloc, trees, hierarchy, tables, extent, is_nested, is_deep, class, &none,
+            )?;
             Ok(why)
         }
     }
@@ -143,7 +174,12 @@ struct Prepared {
     nested: Marks,
 }
 
-fn prepare(alloc: Global, trees: &[ClassTree], hierarchy: &Hierarchy, tables: &Tables) -> Result<Prepared, NoMemory>
+fn prepare(
+    alloc: Global,
+    trees: &[ClassTree],
+    hierarchy: &Hierarchy,
+    tables: &Tables,
+) -> Result<Prepared, NoMemory>
     requires { seen hierarchy.now tables.now ≡ facts_of trees.now }
     ensures { IfOk result (λ p. ArePrepared trees.now (seen hierarchy.now tables.now) p.extents p.deep p.nested) }
 {
@@ -151,10 +187,21 @@ fn prepare(alloc: Global, trees: &[ClassTree], hierarchy: &Hierarchy, tables: &T
     let deep = mark_climbs(alloc, hierarchy.links.as_slice(), 17)?;
     let parts = find_part_links(alloc, trees, hierarchy, tables)?;
     let nested = mark_climbs(alloc, parts.as_slice(), 5)?;
-    Ok(Prepared { extents, deep, nested })
+    Ok(Prepared {
+        extents,
+        deep,
+        nested,
+    })
 }
 
-fn prepared_reason(alloc: Global, trees: &[ClassTree], hierarchy: &Hierarchy, tables: &Tables, prepared: &Prepared, class: usize) -> Result<Option<LinkWhy>, NoMemory>
+fn prepared_reason(
+    alloc: Global,
+    trees: &[ClassTree],
+    hierarchy: &Hierarchy,
+    tables: &Tables,
+    prepared: &Prepared,
+    class: usize,
+) -> Result<Option<LinkWhy>, NoMemory>
     requires facts { seen hierarchy.now tables.now ≡ facts_of trees.now }
     requires prepared { ArePrepared trees.now (seen hierarchy.now tables.now) prepared.now.extents prepared.now.deep prepared.now.nested }
     requires class { class < length trees.now }
@@ -163,11 +210,19 @@ fn prepared_reason(alloc: Global, trees: &[ClassTree], hierarchy: &Hierarchy, ta
     let extent = extent_at(tables, prepared.extents.as_slice(), class);
     let is_nested = is_marked(prepared.nested.as_slice(), class);
     let is_deep = is_marked(prepared.deep.as_slice(), class);
-    let why = late_reason_of(alloc, trees, hierarchy, tables, extent, is_nested, is_deep, class)?;
+    let why = late_reason_of(
+        alloc, trees, hierarchy, tables, extent, is_nested, is_deep, class,
+    )?;
     Ok(why)
 }
 
-fn first_late_reason(alloc: Global, trees: &[ClassTree], hierarchy: &Hierarchy, tables: &Tables, prepared: &Prepared) -> Result<Option<(usize, LinkWhy)>, NoMemory>
+fn first_late_reason(
+    alloc: Global,
+    trees: &[ClassTree],
+    hierarchy: &Hierarchy,
+    tables: &Tables,
+    prepared: &Prepared,
+) -> Result<Option<(usize, LinkWhy)>, NoMemory>
     requires facts { seen hierarchy.now tables.now ≡ facts_of trees.now }
     requires prepared { ArePrepared trees.now (seen hierarchy.now tables.now) prepared.now.extents prepared.now.deep prepared.now.nested }
     ensures { IfOk result (IsFirstOf (late_reason trees.now (seen hierarchy.now tables.now)) (length trees.now)) }
@@ -180,7 +235,12 @@ fn first_late_reason(alloc: Global, trees: &[ClassTree], hierarchy: &Hierarchy, 
     Ok(None)
 }
 
-fn check_rest(alloc: Global, trees: &[ClassTree], hierarchy: &Hierarchy, tables: &Tables) -> Result<(), LinkError>
+fn check_rest(
+    alloc: Global,
+    trees: &[ClassTree],
+    hierarchy: &Hierarchy,
+    tables: &Tables,
+) -> Result<(), LinkError>
     requires facts { seen hierarchy.now tables.now ≡ facts_of trees.now }
     requires before { NoneBelow trees.now 4 }
     ensures none { OnOk result (NoneBelow trees.now 5) }

@@ -38,7 +38,13 @@ pub fn own_indexes_of(trees: &[ClassTree], class: usize) -> &[Index]
     }
 }
 
-fn put_props(alloc: Global, class: usize, from: usize, props: &[PropTree], table: &mut SpotTable) -> Result<(), NoMemory>
+fn put_props(
+    alloc: Global,
+    class: usize,
+    from: usize,
+    props: &[PropTree],
+    table: &mut SpotTable,
+) -> Result<(), NoMemory>
     requires { from + length props.now < 2 ^ 63 }
     ensures { OnOk result (table.new ≡ put_spots table.old (prop_spots class from props.now)) }
 {
@@ -49,7 +55,13 @@ fn put_props(alloc: Global, class: usize, from: usize, props: &[PropTree], table
     Ok(())
 }
 
-fn push_indexes(alloc: Global, class: usize, from: usize, indexes: &[Index], pairs: &mut Items<(Text, Spot)>) -> Result<(), NoMemory>
+fn push_indexes(
+    alloc: Global,
+    class: usize,
+    from: usize,
+    indexes: &[Index],
+    pairs: &mut Items<(Text, Spot)>,
+) -> Result<(), NoMemory>
     requires { from + length indexes.now < 2 ^ 63 }
     ensures { OnOk result (pairs.new ≡ pairs.old ++ index_spots class from indexes.now) }
 {
@@ -60,7 +72,12 @@ fn push_indexes(alloc: Global, class: usize, from: usize, indexes: &[Index], pai
     Ok(())
 }
 
-fn inherit_props(alloc: Global, supers: &[usize], done: &[Members], table: &mut SpotTable) -> Result<(), NoMemory>
+fn inherit_props(
+    alloc: Global,
+    supers: &[usize],
+    done: &[Members],
+    table: &mut SpotTable,
+) -> Result<(), NoMemory>
     ensures { OnOk result (table.new ≡ fold (λ spots m. add_spots spots m.props) table.old (filter_map (slice_get done.now) supers.now)) }
 {
     if let Some((class, rest)) = supers.split_first() {
@@ -72,7 +89,12 @@ fn inherit_props(alloc: Global, supers: &[usize], done: &[Members], table: &mut 
     Ok(())
 }
 
-fn inherit_indexes(alloc: Global, supers: &[usize], done: &[Members], table: &mut SpotTable) -> Result<(), NoMemory>
+fn inherit_indexes(
+    alloc: Global,
+    supers: &[usize],
+    done: &[Members],
+    table: &mut SpotTable,
+) -> Result<(), NoMemory>
     ensures { OnOk result (table.new ≡ fold (λ spots m. add_spots spots m.indexes) table.old (filter_map (slice_get done.now) supers.now)) }
 {
     if let Some((class, rest)) = supers.split_first() {
@@ -84,7 +106,13 @@ fn inherit_indexes(alloc: Global, supers: &[usize], done: &[Members], table: &mu
     Ok(())
 }
 
-fn all_props(alloc: Global, trees: &[ClassTree], class: usize, supers: &[usize], done: &[Members]) -> Result<SpotTable, NoMemory>
+fn all_props(
+    alloc: Global,
+    trees: &[ClassTree],
+    class: usize,
+    supers: &[usize],
+    done: &[Members],
+) -> Result<SpotTable, NoMemory>
     ensures { IfOk result (λ table. table ≡ (members_with trees.now class (filter_map (slice_get done.now) supers.now)).props) }
 {
     let mut table = SpotTable::new(alloc);
@@ -93,7 +121,13 @@ fn all_props(alloc: Global, trees: &[ClassTree], class: usize, supers: &[usize],
     Ok(table)
 }
 
-fn all_indexes(alloc: Global, trees: &[ClassTree], class: usize, supers: &[usize], done: &[Members]) -> Result<Items<(Text, Spot)>, NoMemory>
+fn all_indexes(
+    alloc: Global,
+    trees: &[ClassTree],
+    class: usize,
+    supers: &[usize],
+    done: &[Members],
+) -> Result<Items<(Text, Spot)>, NoMemory>
     ensures { IfOk result (λ pairs. pairs ≡ (members_with trees.now class (filter_map (slice_get done.now) supers.now)).indexes) }
 {
     let mut table = SpotTable::new(alloc);
@@ -104,7 +138,13 @@ fn all_indexes(alloc: Global, trees: &[ClassTree], class: usize, supers: &[usize
 }
 
 /// The members of a class, from those of its superclasses.
-fn gather_one(alloc: Global, trees: &[ClassTree], class: usize, supers: &[usize], done: &[Members]) -> Result<Members, NoMemory>
+fn gather_one(
+    alloc: Global,
+    trees: &[ClassTree],
+    class: usize,
+    supers: &[usize],
+    done: &[Members],
+) -> Result<Members, NoMemory>
     ensures { IfOk result (λ members. members ≡ members_with trees.now class (filter_map (slice_get done.now) supers.now)) }
 {
     let props = all_props(alloc, trees, class, supers, done)?;
@@ -122,7 +162,14 @@ pub fn supers_at(hierarchy: &Hierarchy, class: usize) -> &[usize]
     }
 }
 
-fn gather_at(alloc: Global, trees: &[ClassTree], hierarchy: &Hierarchy, rank: usize, class: usize, done: &mut Items<Members>) -> Result<(), NoMemory>
+fn gather_at(
+    alloc: Global,
+    trees: &[ClassTree],
+    hierarchy: &Hierarchy,
+    rank: usize,
+    class: usize,
+    done: &mut Items<Members>,
+) -> Result<(), NoMemory>
     requires class { class < length trees.now }
     requires hierarchy { IsHierarchyOf (headers_of trees.now) hierarchy.now }
     requires no_ring { (i : ℕ) → i < length trees.now → ¬ IsInRing (super_links trees.now) i }
@@ -130,13 +177,25 @@ fn gather_at(alloc: Global, trees: &[ClassTree], hierarchy: &Hierarchy, rank: us
     ensures { OnOk result (AreGatheredTo trees.now hierarchy.now.above rank (class + 1) done.new) }
 {
     if hierarchy.rank(class) == rank {
-        let members = gather_one(alloc, trees, class, supers_at(hierarchy, class), done.as_slice())?;
+        let members = gather_one(
+            alloc,
+            trees,
+            class,
+            supers_at(hierarchy, class),
+            done.as_slice(),
+        )?;
         done.set(class, members);
     }
     Ok(())
 }
 
-fn gather_rank(alloc: Global, trees: &[ClassTree], hierarchy: &Hierarchy, rank: usize, done: &mut Items<Members>) -> Result<(), NoMemory>
+fn gather_rank(
+    alloc: Global,
+    trees: &[ClassTree],
+    hierarchy: &Hierarchy,
+    rank: usize,
+    done: &mut Items<Members>,
+) -> Result<(), NoMemory>
     requires hierarchy { IsHierarchyOf (headers_of trees.now) hierarchy.now }
     requires no_ring { (i : ℕ) → i < length trees.now → ¬ IsInRing (super_links trees.now) i }
     requires before { AreGatheredTo trees.now hierarchy.now.above rank 0 done.old }
@@ -153,13 +212,20 @@ fn no_members(alloc: Global, count: usize) -> Result<Items<Members>, NoMemory>
 {
     let mut done = Items::new(alloc);
     for _ in 0..count {
-        done.push(Members { props: SpotTable::new(alloc), indexes: Items::new(alloc) })?;
+        done.push(Members {
+            props: SpotTable::new(alloc),
+            indexes: Items::new(alloc),
+        })?;
     }
     Ok(done)
 }
 
 /// The members of all classes, where none is below itself.
-pub fn gather_all(alloc: Global, trees: &[ClassTree], hierarchy: &Hierarchy) -> Result<Items<Members>, NoMemory>
+pub fn gather_all(
+    alloc: Global,
+    trees: &[ClassTree],
+    hierarchy: &Hierarchy,
+) -> Result<Items<Members>, NoMemory>
     requires hierarchy { IsHierarchyOf (headers_of trees.now) hierarchy.now }
     requires no_ring { (i : ℕ) → i < length trees.now → ¬ IsInRing (super_links trees.now) i }
     ensures { IfOk result (AreGathered trees.now) }

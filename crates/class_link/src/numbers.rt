@@ -11,7 +11,11 @@ fn without_zeros(digits: &[u8]) -> &[u8]
 {
     match digits.split_first() {
         None => digits,
-        Some((digit, rest)) => if *digit == b'0' && !rest.is_empty() { without_zeros(rest) } else { digits },
+        Some((digit, rest)) => if *digit == b'0' && !rest.is_empty() {
+            without_zeros(rest)
+        } else {
+            digits
+        },
     }
 }
 

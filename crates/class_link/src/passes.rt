@@ -40,7 +40,12 @@ fn add_name(alloc: Global, header: &Header, names: &mut NameTable) -> Result<boo
 }
 
 /// Puts the names of all classes into the table, up to the first that is there already.
-pub fn add_names(alloc: Global, headers: &[Header], class: usize, names: &mut NameTable) -> Result<Option<usize>, NoMemory>
+pub fn add_names(
+    alloc: Global,
+    headers: &[Header],
+    class: usize,
+    names: &mut NameTable,
+) -> Result<Option<usize>, NoMemory>
     requires { class + length headers.now < 2 ^ 63 }
     ensures all { IfOk result (IfNoneThen (names.new ≡ names.old ++ names_of headers.now)) }
     ensures first { IfOk result (λ found. found ≡ first_repeated class names.old (names_of headers.now)) }
@@ -61,7 +66,9 @@ pub fn add_names(alloc: Global, headers: &[Header], class: usize, names: &mut Na
 fn is_in_ring(hierarchy: &Hierarchy, class: usize) -> bool
     ensures { result ≡ ring_mark hierarchy.now.links hierarchy.now.above class }
 {
-    supers_at(hierarchy, class).iter().any(|other| hierarchy.is_at_or_below(*other, class))
+    supers_at(hierarchy, class)
+        .iter()
+        .any(|other| hierarchy.is_at_or_below(*other, class))
 }
 
 fn super_reason_of(trees: &[ClassTree], hierarchy: &Hierarchy, class: usize) -> Option<LinkWhy>
@@ -88,7 +95,13 @@ pub fn first_super_reason(trees: &[ClassTree], hierarchy: &Hierarchy) -> Option<
     None
 }
 
-fn type_reason_of(alloc: Global, trees: &[ClassTree], hierarchy: &Hierarchy, tables: &Tables, class: usize) -> Result<Option<LinkWhy>, NoMemory>
+fn type_reason_of(
+    alloc: Global,
+    trees: &[ClassTree],
+    hierarchy: &Hierarchy,
+    tables: &Tables,
+    class: usize,
+) -> Result<Option<LinkWhy>, NoMemory>
     ensures { IfOk result (λ why. why ≡ type_reason trees.now (seen hierarchy.now tables.now) class) }
 {
     match tables.members.get(class) {
@@ -104,7 +117,12 @@ fn type_reason_of(alloc: Global, trees: &[ClassTree], hierarchy: &Hierarchy, tab
 }
 
 /// The first class with a property whose class is unknown.
-pub fn first_type_reason(alloc: Global, trees: &[ClassTree], hierarchy: &Hierarchy, tables: &Tables) -> Result<Option<(usize, LinkWhy)>, NoMemory>
+pub fn first_type_reason(
+    alloc: Global,
+    trees: &[ClassTree],
+    hierarchy: &Hierarchy,
+    tables: &Tables,
+) -> Result<Option<(usize, LinkWhy)>, NoMemory>
     ensures { IfOk result (IsFirstOf (type_reason trees.now (seen hierarchy.now tables.now)) (length trees.now)) }
 {
     for class in 0..trees.len() {

@@ -84,11 +84,18 @@ fn is_same_form(left: &Form, right: &Form) -> bool
         Form::Single => matches!(right, Form::Single),
         Form::List => matches!(right, Form::List),
         Form::Array => matches!(right, Form::Array),
-        Form::Relation { cardinality, inverse } => match right {
+        Form::Relation {
+            cardinality,
+            inverse,
+        } => match right {
             Form::Single => false,
             Form::List => false,
             Form::Array => false,
-            Form::Relation { cardinality: other_cardinality, inverse: other_inverse } => is_same_word(cardinality, other_cardinality) && is_same_word(inverse, other_inverse),
+            Form::Relation {
+                cardinality: other_cardinality,
+                inverse: other_inverse,
+            } => is_same_word(cardinality, other_cardinality)
+                && is_same_word(inverse, other_inverse),
         },
     }
 }

@@ -100,7 +100,12 @@ impl SpotTable {
         Ok(())
     }
 
-    fn copy_pair(&self, alloc: Global, place: usize, pairs: &mut Items<(Text, Spot)>) -> Result<(), NoMemory>
+    fn copy_pair(
+        &self,
+        alloc: Global,
+        place: usize,
+        pairs: &mut Items<(Text, Spot)>,
+    ) -> Result<(), NoMemory>
         ensures { OnOk result (pairs.new ≡ pairs.old ++ option_to_list (slice_get self.now place)) }
     {
         if let Some((name, spot)) = self.spots.get_index(place) {

@@ -20,7 +20,12 @@ fn short_of(trees: &[ClassTree], class: usize) -> Option<&[u8]>
     }
 }
 
-fn push_short(alloc: Global, trees: &[ClassTree], class: usize, words: &mut Items<Text>) -> Result<(), NoMemory>
+fn push_short(
+    alloc: Global,
+    trees: &[ClassTree],
+    class: usize,
+    words: &mut Items<Text>,
+) -> Result<(), NoMemory>
     ensures { OnOk result (words.new ≡ words.old ++ option_to_list (short_at trees.now class)) }
 {
     match short_of(trees, class) {
@@ -41,7 +46,14 @@ fn first_of(firsts: &[Option<usize>], class: usize) -> Option<usize>
     }
 }
 
-fn push_shorts(alloc: Global, trees: &[ClassTree], firsts: &[Option<usize>], most: usize, class: usize, words: &mut Items<Text>) -> Result<(), NoMemory>
+fn push_shorts(
+    alloc: Global,
+    trees: &[ClassTree],
+    firsts: &[Option<usize>],
+    most: usize,
+    class: usize,
+    words: &mut Items<Text>,
+) -> Result<(), NoMemory>
     ensures { OnOk result (words.new ≡ words.old ++ filter_map (short_at trees.now) (chain most firsts.now class)) }
 {
     push_short(alloc, trees, class, words)?;
@@ -68,7 +80,12 @@ fn is_array_form(form: &Form) -> bool
     }
 }
 
-fn push_array(alloc: Global, trees: &[ClassTree], spot: Spot, words: &mut Items<Text>) -> Result<(), NoMemory>
+fn push_array(
+    alloc: Global,
+    trees: &[ClassTree],
+    spot: Spot,
+    words: &mut Items<Text>,
+) -> Result<(), NoMemory>
     ensures { OnOk result (words.new ≡ words.old ++ option_to_list (array_at trees.now spot)) }
 {
     if let Some(prop) = prop_at_spot(trees, spot) {
@@ -79,7 +96,12 @@ fn push_array(alloc: Global, trees: &[ClassTree], spot: Spot, words: &mut Items<
     Ok(())
 }
 
-fn push_arrays(alloc: Global, trees: &[ClassTree], spots: &[Spot], words: &mut Items<Text>) -> Result<(), NoMemory>
+fn push_arrays(
+    alloc: Global,
+    trees: &[ClassTree],
+    spots: &[Spot],
+    words: &mut Items<Text>,
+) -> Result<(), NoMemory>
     ensures { OnOk result (words.new ≡ words.old ++ filter_map (array_at trees.now) spots.now) }
 {
     if let Some((spot, rest)) = spots.split_first() {
@@ -90,7 +112,13 @@ fn push_arrays(alloc: Global, trees: &[ClassTree], spots: &[Spot], words: &mut I
 }
 
 /// The names of the subnodes of a row: the short names of the classes up to the root, and the names of the arrays.
-pub fn find_subnodes(alloc: Global, trees: &[ClassTree], firsts: &[Option<usize>], class: usize, spots: &[Spot]) -> Result<Items<Text>, NoMemory>
+pub fn find_subnodes(
+    alloc: Global,
+    trees: &[ClassTree],
+    firsts: &[Option<usize>],
+    class: usize,
+    spots: &[Spot],
+) -> Result<Items<Text>, NoMemory>
     ensures { IfOk result (λ words. words ≡ filter_map (short_at trees.now) (chain (length trees.now) firsts.now class) ++ filter_map (array_at trees.now) spots.now) }
 {
     let mut words = Items::new(alloc);

@@ -84,10 +84,10 @@ module _ (links : List (List ℕ)) (above : List (List Bool)) (tables : AreAllAb
       let here = tables.each a small in
       let there = tables.each s (within-IsIn a s into) in
       marked-more (get_or above s []) (get_or above a []) a
-        (Grows-from (get_or above s []) (get_or above a []) (there.as_long ∙ sym here.as_long)
-          (λ b m. let way = there.true_marks b m in here.all_marks b (suc way.0, (s, into, way.1))))
-        (not-true (mark_at (get_or above s []) a) (λ m. no_ring (s, into, there.true_marks a m)))
-        (here.all_marks a (0, refl))
+      (Grows-from (get_or above s []) (get_or above a []) (there.as_long ∙ sym here.as_long)
+      (λ b m. let way = there.true_marks b m in here.all_marks b (suc way.0, (s, into, way.1))))
+      (not-true (mark_at (get_or above s []) a) (λ m. no_ring (s, into, there.true_marks a m)))
+      (here.all_marks a (0, refl))
 
   pub rank_bound : (a : ℕ) → a < length links → rank above a ≤ length links
   rank_bound a small = let long = (tables.each a small).as_long in let bound = marked-bound (get_or above a []) in omega arith

@@ -71,7 +71,14 @@ impl Method {
         let name = self.name.copy(alloc)?;
         let args = copy_args(alloc, self.args.as_slice())?;
         let body = self.body.copy(alloc)?;
-        Ok(Method { name, of_class: self.of_class, args, body, line: self.line, column: self.column })
+        Ok(Method {
+            name,
+            of_class: self.of_class,
+            args,
+            body,
+            line: self.line,
+            column: self.column,
+        })
     }
 }
 

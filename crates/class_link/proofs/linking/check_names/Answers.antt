@@ -10,11 +10,11 @@ use Rattle.class_link.proofs.linking.check_names.Goals as goal
 pub returns-in-Some-clause-refused : goal.returns-in-Some-clause-refused
 returns-in-Some-clause-refused c =
     refused-is c.args.trees.now c.in-Some.class RepeatedClass c.refuse.result
-      (found-first c.args.trees.now 1 (name_reason (tree_names c.args.trees.now)) (name-group c.args.trees.now) (none-first c.args.trees.now) c.in-Some.class RepeatedClass
-        (names-first c.args.trees.now c.in-Some.class (sym c.in-Some.is ∙ c.in_ok-names.ensures.first ∙ ap (λ hs. first_repeated 0 [] (names_of hs)) c.in_ok-headers.ensures)))
-      c.refuse.ensures
+    (found-first c.args.trees.now 1 (name_reason (tree_names c.args.trees.now)) (name-group c.args.trees.now) (none-first c.args.trees.now) c.in-Some.class RepeatedClass
+    (names-first c.args.trees.now c.in-Some.class (sym c.in-Some.is ∙ c.in_ok-names.ensures.first ∙ ap (λ hs. first_repeated 0 [] (names_of hs)) c.in_ok-headers.ensures)))
+    c.refuse.ensures
 
 pub returns-clause-none : goal.returns-clause-none
 returns-clause-none c =
     none-more c.args.trees.now 1 (name_reason (tree_names c.args.trees.now)) (name-group c.args.trees.now) (none-first c.args.trees.now)
-      (names-none c.args.trees.now (sym c.in-None.is ∙ c.in_ok-names.ensures.first ∙ ap (λ hs. first_repeated 0 [] (names_of hs)) c.in_ok-headers.ensures))
+    (names-none c.args.trees.now (sym c.in-None.is ∙ c.in_ok-names.ensures.first ∙ ap (λ hs. first_repeated 0 [] (names_of hs)) c.in_ok-headers.ensures))

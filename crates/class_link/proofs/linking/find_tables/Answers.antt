@@ -10,6 +10,6 @@ gather_all-requires-clause-no_ring c = no-ring c.args.trees.now c.requires.befor
 pub returns : goal.returns
 returns c =
     seen-facts c.args.trees.now c.args.hierarchy.now (record { sorts = c.in_ok-sorts.sorts; tops = c.in_ok-tops.tops; members = c.in_ok-members.members }) c.requires.hierarchy
-      c.in_ok-tops.ensures
-      (c.in_ok-sorts.ensures ∙ ap (map (λ i. sort_above (supers_of (slice_get c.args.trees.now i)))) c.as_slice.ensures)
-      c.in_ok-members.ensures
+    c.in_ok-tops.ensures
+    (c.in_ok-sorts.ensures ∙ ap (map (λ i. sort_above (supers_of (slice_get c.args.trees.now i)))) c.as_slice.ensures)
+    c.in_ok-members.ensures

@@ -7,4 +7,4 @@ pub returns : goal.returns
 returns c =
     let last : c.loop-rank.rank ≡ length c.args.trees.now + 1 = omega arith in
     gathered-end c.args.trees.now c.args.hierarchy.now c.requires.hierarchy c.requires.no_ring c.loop-rank.done
-      (subst (λ r. AreGatheredTo c.args.trees.now c.args.hierarchy.now.above r 0 c.loop-rank.done) last c.loop-rank.invariant)
+    (subst (λ r. AreGatheredTo c.args.trees.now c.args.hierarchy.now.above r 0 c.loop-rank.done) last c.loop-rank.invariant)
