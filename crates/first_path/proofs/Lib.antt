@@ -8,3 +8,4 @@ pub mod WorldLaws
 pub mod PlayLaws
 pub mod KnownLaws
 pub mod ImageLaws
+pub mod Standing

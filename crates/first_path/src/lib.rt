@@ -3,6 +3,7 @@
 
 mod act;
 mod imaging;
+mod law;
 mod line;
 mod names;
 mod piece;
@@ -12,6 +13,7 @@ mod session;
 
 pub use act::Act;
 pub use imaging::image;
+pub use law::world_law;
 pub use playing::{Ending, Played, play};
 pub use script::{MAX_LINES, read_script};
 pub use session::Fields;
