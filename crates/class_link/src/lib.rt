@@ -19,6 +19,8 @@ mod props;
 mod spots;
 mod subnodes;
 mod tables;
+#[cfg(test)]
+mod tests;
 
 pub use entry::Entry;
 pub use error::{LinkError, LinkWhy};
