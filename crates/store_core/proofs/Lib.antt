@@ -1,0 +1,3 @@
+pub mod Restored
+pub mod Outcomes
+pub mod HistoryLaws

@@ -1,0 +1,10 @@
+-- What is known of a call that was refused, or that wasn't.
+use Rattle.std.proofs.Common.{Result, Ok, Err, OnOk, OnErr}
+
+pub on_err : {A E : Type 0} {P Q S : Type 0} (r : Result A E) → OnErr r P → OnErr r Q → (P → Q → S) → OnErr r S
+on_err (Ok a) p q f = tt
+on_err (Err e) p q f = f p q
+
+pub on_ok : {A E : Type 0} {P S : Type 0} (r : Result A E) → OnOk r P → (P → S) → OnOk r S
+on_ok (Ok a) p f = f p
+on_ok (Err e) p f = tt

@@ -1,0 +1,5 @@
+pub mod Numbers
+pub mod Machine
+pub mod Volume
+pub mod History
+pub mod Cleared

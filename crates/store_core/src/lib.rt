@@ -1,0 +1,12 @@
+//! The store of all processes: one tree of globals, one lock table and a log for each process.
+//! Each operation is a step of the store machine, and the history tells them all.
+#![tactic(auto)]
+
+mod entry;
+mod laws;
+mod number;
+mod volume;
+mod writes;
+
+pub use entry::Entry;
+pub use laws::steps_keep_histories_legal;
