@@ -1,3 +1,4 @@
 pub mod Restored
 pub mod Outcomes
+pub mod Rooms
 pub mod HistoryLaws

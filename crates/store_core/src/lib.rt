@@ -2,11 +2,16 @@
 //! Each operation is a step of the store machine, and the history tells them all.
 #![tactic(auto)]
 
+mod act;
+mod ends;
 mod entry;
 mod laws;
 mod number;
+mod reads;
+mod refusal;
 mod volume;
 mod writes;
 
 pub use entry::Entry;
 pub use laws::steps_keep_histories_legal;
+pub use refusal::ApplyError;
