@@ -1,4 +1,5 @@
 pub mod Restored
 pub mod Outcomes
+pub mod TurnLaws
 pub mod Rooms
 pub mod HistoryLaws

@@ -9,6 +9,7 @@ mod laws;
 mod number;
 mod reads;
 mod refusal;
+mod turns;
 mod volume;
 mod writes;
 
