@@ -14,5 +14,5 @@ mod volume;
 mod writes;
 
 pub use entry::Entry;
-pub use laws::steps_keep_histories_legal;
+pub use laws::{cleared_without_levels, steps_keep_histories_legal, turns_leave_others_alone};
 pub use refusal::ApplyError;
