@@ -11,7 +11,7 @@ mod olds;
 mod stack;
 
 pub use ends::{Begun, Ended};
-pub use kept::Olds;
+pub use kept::{Olds, put_all_back, unpin_all};
 pub use laws::{
     inner_commits_keep_what_undoing_all_gives, levels_keep_first_values, noted_writes_are_undone,
 };

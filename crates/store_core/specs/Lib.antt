@@ -1,0 +1,6 @@
+pub mod Numbers
+pub mod Machine
+pub mod Volume
+pub mod History
+pub mod Tied
+pub mod Cleared
