@@ -47,7 +47,7 @@ impl Tree {
         }
     }
 
-    /// The value of the node.
+    /// The value of the node, if it has one. It takes no memory.
     pub fn get(&self, node: &Node) -> Option<&Value>
         ensures { option_copied result ≡ map.get self.now.globals node.now }
     {
@@ -57,8 +57,9 @@ impl Tree {
         }
     }
 
-    /// Gives the node a value and answers the old one. The place is pinned once more, whether it
-    /// had a value or not. At a want of memory the tree stays as it was.
+    /// Gives the node a value and answers the old one. The place, which needs fewer than 2^64 - 1
+    /// pins, is pinned once more, whether it had a value or not. At a want of memory the tree stays
+    /// as it was.
     pub fn set(&mut self, node: Node, value: Value) -> Result<Option<Value>, NoMemory>
         requires { pins_of self.old.pins node + 1 < 2 ^ 64 }
         ensures before { IfOk result (λ before. before ≡ map.get self.old.globals node) }
@@ -84,7 +85,7 @@ impl Tree {
     }
 
     /// The least subscript below the node, after the one given or from the first on, that has a
-    /// value or descendants.
+    /// value or descendants, as `$ORDER` finds it. It takes no memory.
     pub fn next(&self, node: &Node, after: Option<&Sub>) -> Option<&Sub>
         ensures next { option_copied result ≡ next_below self.now.globals node.now (option_copied after.entry) }
         ensures least { IfSome result (λ sub. IsNext self.now.globals node.now (option_copied after.entry) sub.now) }
@@ -95,7 +96,8 @@ impl Tree {
         first_step(node, &places[start..])
     }
 
-    /// 1 where the node has a value, 10 where it has descendants, 11 where both, and else 0.
+    /// 1 where the node has a value, 10 where it has descendants, 11 where both, and else 0, as
+    /// `$DATA` answers. It takes no memory.
     #[tactic(auto, unfolding(crate::specs::Below::state_at))]
     pub fn defined(&self, node: &Node) -> u8
         ensures state { result ≡ state_at self.now.globals node.now }
@@ -109,14 +111,15 @@ impl Tree {
         }
     }
 
-    /// All nodes that have a value, in node order.
+    /// Copies of all nodes that have a value, in node order; it fails only for want of memory.
     pub fn nodes(&self, alloc: Global) -> Result<Nodes, NoMemory>
         ensures { IfOk result (λ nodes. nodes ≡ map.entries self.now.globals) }
     {
         copy_valued(alloc, self.places.as_slice())
     }
 
-    /// Stores the value at a pinned place, or takes it away; the pins stay.
+    /// Stores the value at a pinned place, or takes it away; the pins stay. It takes no memory and
+    /// always succeeds.
     pub fn put_back(&mut self, node: &Node, value: Option<Value>)
         requires { 0 < pins_of self.old.pins node.now }
         ensures values { self.new.globals ≡ placed self.old.globals node.now value }
@@ -128,7 +131,8 @@ impl Tree {
         }
     }
 
-    /// Takes one pin of a pinned place away. Where no pin and no value is left the place goes.
+    /// Takes one pin of a pinned place away. Where no pin and no value is left the place goes. It
+    /// takes no memory and always succeeds.
     pub fn unpin(&mut self, node: &Node)
         requires { 0 < pins_of self.old.pins node.now }
         ensures values { self.new.globals ≡ self.old.globals }
@@ -144,7 +148,8 @@ impl Tree {
     }
 
     /// Takes the values of the node and of its descendants away, answers them in node order, and
-    /// pins the place of each once more. At a want of memory the tree stays as it was.
+    /// pins the place of each, which needs fewer than 2^64 - 1 pins, once more. At a want of memory
+    /// the tree stays as it was.
     pub fn take_under(&mut self, alloc: Global, node: &Node) -> Result<Pairs, NoMemory>
         requires { (m : Node) → covers node.now m ≡ true → map.contains_key self.old.globals m ≡ true → pins_of self.old.pins m + 1 < 2 ^ 64 }
         ensures taken { IfOk result (λ taken. taken ≡ filter (λ e. covers node.now e.0) (map.entries self.old.globals)) }
