@@ -1,8 +1,8 @@
 -- What an operation of one process leaves to the others.
-use Rattle.std.proofs.Common.{◌≡◌, ◌≢◌, ℕ, zero, suc, Bool, true, false, cond, not, ◌&&◌, ◌==◌, List, [], ◌∷◌, Option, Some, None, unwrap_or, is_some, refl, sym, ap, ◌∙◌, nat_cmp}
+use Rattle.std.proofs.Common.{◌≡◌, ◌≢◌, ℕ, zero, suc, Bool, true, false, cond, not, ◌==◌, [], Option, Some, None, unwrap_or, refl, ap, ◌∙◌, nat_cmp}
 use Rattle.std.proofs.lemmas.Cmp.{nat_cmp_total}
 use Rattle.std.specs.Ordering.{eq_by_cmp}
-use Rattle.std.specs.FinMap.{get, empty, get-empty, get-insert, nat_cmp-IsAntisymmetric}
+use Rattle.std.specs.FinMap.{get, get-empty, get-insert, nat_cmp-IsAntisymmetric}
 use Rattle.obj_kinds.specs.declared.node.Node.{Node}
 use Rattle.obj_kinds.specs.declared.op.Pid.{Pid}
 use Rattle.obj_kinds.specs.declared.op.Op.{Op}

@@ -1,4 +1,4 @@
-use Rattle.std.proofs.Common.{◌≡◌, ◌+◌, ◌-◌, ◌<◌, ◌∙◌, sym, subst, length, get_or, set, Some, None, arith}
+use Rattle.std.proofs.Common.{◌≡◌, ◌+◌, ◌-◌, ◌<◌, ◌∙◌, sym, subst, length, set, Some, arith}
 use Rattle.store_core.specs.Machine.{sight, after}
 use Rattle.store_core.specs.Tied.{IsTied}
 use Rattle.store_core.specs.Volume.{reply_volume}
