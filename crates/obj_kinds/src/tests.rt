@@ -1,3 +1,5 @@
+ghost use Rattle.std.specs.Prelude.{◌<◌};
+
 use super::*;
 use std::alloc::Global;
 use std::test::Fail;
@@ -100,32 +102,52 @@ fn node(alloc: Global, global: &str, subs: &[&str]) -> Result<Node, SubError> {
     })
 }
 
+/// Nodes in their order, each with its text.
+const NODES: [(&str, &[&str], &str); 9] = [
+    ("A", &[], "^A"),
+    ("A", &["-5"], "^A(-5)"),
+    ("A", &["2"], "^A(2)"),
+    ("A", &["2", "x"], "^A(2,\"x\")"),
+    ("A", &["10"], "^A(10)"),
+    ("A", &["02"], "^A(\"02\")"),
+    ("A", &["a\"b"], "^A(\"a\"\"b\")"),
+    ("A.B", &[], "^A.B"),
+    ("B", &["\n\u{7f}z"], "^B($c(10,127)_\"z\")"),
+];
+
+fn has_text(alloc: Global, at: usize) -> Result<bool, SubError>
+    requires { at < 9 }
+{
+    let (global, subs, text) = NODES[at];
+    let printed = node_text(alloc, &node(alloc, global, subs)?)?;
+    Ok(printed.as_slice() == text.as_bytes())
+}
+
+fn stand_like(alloc: Global, at: usize, other: usize) -> Result<bool, SubError>
+    requires first { at < 9 }
+    requires second { other < 9 }
+{
+    let (global, subs, _) = NODES[at];
+    let left = node(alloc, global, subs)?;
+    let (global, subs, _) = NODES[other];
+    let right = node(alloc, global, subs)?;
+    Ok(left.compare(&right) == at.cmp(&other))
+}
+
 #[test]
-fn nodes_stand_in_order_and_print(rt: HostRuntime) -> Result<(), Fail> {
-    let cases: [(&str, &[&str], &str); 9] = [
-        ("A", &[], "^A"),
-        ("A", &["-5"], "^A(-5)"),
-        ("A", &["2"], "^A(2)"),
-        ("A", &["2", "x"], "^A(2,\"x\")"),
-        ("A", &["10"], "^A(10)"),
-        ("A", &["02"], "^A(\"02\")"),
-        ("A", &["a\"b"], "^A(\"a\"\"b\")"),
-        ("A.B", &[], "^A.B"),
-        ("B", &["\n\u{7f}z"], "^B($c(10,127)_\"z\")"),
-    ];
-    for (at, (global, subs, text)) in cases.iter().enumerate() {
-        let left = node(rt.alloc(), global, subs).expect(&rt, "memory");
-        let printed = node_text(rt.alloc(), &left).expect(&rt, "memory");
-        assert_eq!(rt; printed.as_slice(), text.as_bytes(), "{text}");
-        let copy = left.copy(rt.alloc()).expect(&rt, "memory");
-        assert!(rt; matches!(left.compare(&copy), std::cmp::Ordering::Equal));
-        for (other, (global, subs, _)) in cases.iter().enumerate() {
-            let right = node(rt.alloc(), global, subs).expect(&rt, "memory");
-            assert_eq!(rt;
-                left.compare(&right),
-                at.cmp(&other),
-                "{text} and place {other}"
-            );
+fn nodes_have_their_texts(rt: HostRuntime) -> Result<(), Fail> {
+    for at in 0..NODES.len() {
+        assert!(rt; has_text(rt.alloc(), at).expect(&rt, "memory"), "node {at}");
+    }
+    Ok(())
+}
+
+#[test]
+fn nodes_stand_in_order(rt: HostRuntime) -> Result<(), Fail> {
+    for at in 0..NODES.len() {
+        for other in 0..NODES.len() {
+            let alike = stand_like(rt.alloc(), at, other).expect(&rt, "memory");
+            assert!(rt; alike, "nodes {at} and {other}");
         }
     }
     Ok(())
