@@ -54,7 +54,7 @@ pub cleared_same : (s : State) (n : Node) → ((q : ℕ) → outermost (levels_a
 unfolding cleared
 cleared_same s n none = upto_same s n none s.pids
 
-no_levels : (k q : ℕ) → unwrap_or (get (all_live k) q) [] ≡ []
+pub no_levels : (k q : ℕ) → unwrap_or (get (all_live k) q) [] ≡ []
 no_levels zero q = ap (λ o. unwrap_or o []) (get-empty {X = Levels} nat_cmp q)
 no_levels (suc k) q = ap (λ o. unwrap_or o []) (get-insert nat_cmp_total (all_live k) (suc k) [] q) ∙ by (eq_by_cmp nat_cmp q (suc k)) (get (all_live k) q) (no_levels k q)
   where

@@ -4,3 +4,6 @@ pub mod FrameLaws
 pub mod TurnLaws
 pub mod Rooms
 pub mod HistoryLaws
+pub mod GuardHolds
+pub mod GuardTurns
+pub mod GuardLaws

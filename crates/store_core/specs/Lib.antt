@@ -4,3 +4,4 @@ pub mod Volume
 pub mod History
 pub mod Tied
 pub mod Cleared
+pub mod Guard
