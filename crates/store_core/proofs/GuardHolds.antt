@@ -37,7 +37,9 @@ lowered_stays : (stay : Bool) (n : ℕ) (c : Kept) → c.to_end ≡ true → (lo
 lowered_stays stay n c e = ap (λ b. b || stay) e
 
 granted_stays : (hs : Holds) (h x : Hold) (k : Keep) → IsToEnd hs x → IsToEnd (granted hs h k) x
-granted_stays hs h x k e = ap (λ (c : Kept). c.to_end) (kept_granted hs h x k) ∙ either_stays (is_same x h) (raised k (kept hs x)) (kept hs x) (raised_stays k (kept hs x) e) e
+granted_stays hs h x k e =
+    ap (λ (c : Kept). c.to_end) (kept_granted hs h x k)
+    ∙ either_stays (is_same x h) (raised k (kept hs x)) (kept hs x) (raised_stays k (kept hs x) e) e
 
 asked_stays : (hs : Holds) (h x : Hold) (k : Keep) → IsToEnd hs x → IsToEnd (asked hs h k) x
 asked_stays hs h x k e = by (is_some (refusing hs h))
@@ -49,14 +51,18 @@ asked_stays hs h x k e = by (is_some (refusing hs h))
 -- an unlock leaves what is kept to the end
 given_back_stays : (hs : Holds) (h x : Hold) (in_tran : Bool) → IsToEnd hs x → IsToEnd (given_back hs h in_tran) x
 given_back_stays hs h x in_tran e =
+    let was = kept hs x in
+    let less = one_back in_tran x was in
+    let less_stays : less.to_end ≡ true = lowered_stays (stays in_tran x) (was.counted - 1) was e in
     ap (λ (c : Kept). c.to_end) (kept_given_back hs h x in_tran)
-    ∙ either_stays (is_same x h) (cond (is_counted (kept hs x)) (one_back in_tran x (kept hs x)) (kept hs x)) (kept hs x)
-    (either_stays (is_counted (kept hs x)) (one_back in_tran x (kept hs x)) (kept hs x) (lowered_stays (stays in_tran x) ((kept hs x).counted - 1) (kept hs x) e) e) e
+    ∙ either_stays (is_same x h) (cond (is_counted was) less was) was (either_stays (is_counted was) less was less_stays e) e
 
-all_given_back_stays : (hs : Holds) (p : Pid) (o : Owner) (x : Hold) (in_tran : Bool) → IsToEnd hs x → IsToEnd (all_given_back hs p o in_tran) x
+all_given_back_stays : (hs : Holds) (p : Pid) (o : Owner) (x : Hold) (in_tran : Bool) → IsToEnd hs x
+    → IsToEnd (all_given_back hs p o in_tran) x
 all_given_back_stays hs p o x in_tran e =
+    let was = kept hs x in
     ap (λ (c : Kept). c.to_end) (kept_all_given_back hs p o in_tran x)
-    ∙ either_stays (is_of p o x && is_counted (kept hs x)) (lowered (stays in_tran x) 0 (kept hs x)) (kept hs x) (lowered_stays (stays in_tran x) 0 (kept hs x) e) e
+    ∙ either_stays (is_of p o x && is_counted was) (lowered (stays in_tran x) 0 was) was (lowered_stays (stays in_tran x) 0 was e) e
 
 pub not_same : (p q : ℕ) → p ≢ q → (p == q) ≡ false
 not_same p q ne = grind (arith, nat_tests)
@@ -64,21 +70,24 @@ not_same p q ne = grind (arith, nat_tests)
 -- those of the others stay where a transaction or a process ends
 tran_ended_stays : (hs : Holds) (p : Pid) (x : Hold) → x.pid.0 ≢ p.0 → IsToEnd hs x → IsToEnd (tran_ended hs p) x
 tran_ended_stays hs p x ne e =
+    let was = kept hs x in
     ap (λ (c : Kept). c.to_end) (kept_tran_ended hs p x)
-    ∙ ap (λ b. (cond b (record { counted = (kept hs x).counted; to_end = false }) (kept hs x)).to_end) (not_same x.pid.0 p.0 ne) ∙ e
+    ∙ ap (λ b. (cond b (record { counted = was.counted; to_end = false }) was).to_end) (not_same x.pid.0 p.0 ne) ∙ e
 
 dropped_stays : (hs : Holds) (p : Pid) (x : Hold) → x.pid.0 ≢ p.0 → IsToEnd hs x → IsToEnd (all_dropped hs p) x
 dropped_stays hs p x ne e =
     ap (λ (c : Kept). c.to_end) (kept_all_dropped hs p x)
     ∙ ap (λ b. (cond b unheld (kept hs x)).to_end) (not_same x.pid.0 p.0 ne) ∙ e
 
-left_stays : (hs : Holds) (p : Pid) (x : Hold) (b : Bool) → (x.pid.0 ≡ p.0 → b ≡ false) → IsToEnd hs x → IsToEnd (cond b (tran_ended hs p) hs) x
+left_stays : (hs : Holds) (p : Pid) (x : Hold) (b : Bool) → (x.pid.0 ≡ p.0 → b ≡ false) → IsToEnd hs x
+    → IsToEnd (cond b (tran_ended hs p) hs) x
 left_stays hs p x true own e = tran_ended_stays hs p x (λ same. cc (own same)) e
 left_stays hs p x false own e = e
 
 -- ---- every operation
 
-pub held_stays : (s : Sight) (p : Pid) (op : Op) (h : Hold) → IsToEnd s.holds h → (h.pid.0 ≡ p.0 → ends op s.levels (turn s p op).levels ≡ false) → IsToEnd (turn s p op).holds h
+pub held_stays : (s : Sight) (p : Pid) (op : Op) (h : Hold) → IsToEnd s.holds h
+    → (h.pid.0 ≡ p.0 → ends op s.levels (turn s p op).levels ≡ false) → IsToEnd (turn s p op).holds h
 unfolding turn
 held_stays s p (Lock n m o k) h e own = asked_stays s.holds (hold p n m o) h k e
 held_stays s p (Unlock n m o) h e own = given_back_stays s.holds (hold p n m o) h (is_open s.levels) e

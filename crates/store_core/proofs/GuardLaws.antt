@@ -17,9 +17,9 @@ use Rattle.lock_table.specs.Holds.{hold_cmp}
 use Rattle.tran_log.specs.Levels.{Levels}
 use Rattle.store_core.specs.declared.entry.Entry.{Entry}
 use Rattle.store_core.specs.Machine.{State, seen, is_open, is_live, levels_at, live_with, turn, after, all_live, opening}
-use Rattle.store_core.specs.History.{IsLegal, state_after}
+use Rattle.store_core.specs.History.{state_after}
 use Rattle.store_core.specs.Cleared.{outermost, cleared, cleared_upto}
-use Rattle.store_core.specs.Guard.{Guard, is_guarded, HoldsToEnd, names, Respects, AllRespect, IsGuarded, commits, MovesAtCommits, last_committed, ends}
+use Rattle.store_core.specs.Guard.{Guard, is_guarded, HoldsToEnd, names, Respects, IsLegalUnder, IsGuarded, commits, MovesAtCommits, last_committed, ends}
 use Rattle.store_core.proofs.FrameLaws.{others_stay, stays_free, no_levels, cleared_opening}
 use Rattle.store_core.proofs.GuardHolds.{IsToEnd, held_stays, one_holder}
 use Rattle.store_core.proofs.GuardTurns.{IsTurned, Left, Wrote, Undid, Committed, turned}
@@ -47,7 +47,8 @@ none_is (Some x) e = cc
 itself : (p : ℕ) → eq_by_cmp nat_cmp p p ≡ true
 itself p = ap is_eq (tied_itself nat_cmp_total p)
 
-live_levels : (s : State) (p : Pid) (op : Op) → unwrap_or (live_with op (turn (seen s p) p op).levels) [] ≡ (turn (seen s p) p op).levels
+live_levels : (s : State) (p : Pid) (op : Op)
+    → unwrap_or (live_with op (turn (seen s p) p op).levels) [] ≡ (turn (seen s p) p op).levels
 unfolding turn
 live_levels s p End = refl
 live_levels s p _ = refl
@@ -84,7 +85,9 @@ live_of s p n e = by (get s.levels p.0) e
 
 -- ---- holds to the end
 
-pub end_stays : (s : State) (p : Pid) (op : Op) (h : Hold) → IsToEnd s.holds h → (h.pid.0 ≡ p.0 → ends op (levels_at s p.0) (levels_at (after s p op) p.0) ≡ false) → IsToEnd (after s p op).holds h
+pub end_stays : (s : State) (p : Pid) (op : Op) (h : Hold) → IsToEnd s.holds h
+    → (h.pid.0 ≡ p.0 → ends op (levels_at s p.0) (levels_at (after s p op) p.0) ≡ false)
+    → IsToEnd (after s p op).holds h
 unfolding after
 end_stays s p op h e own = held_stays (seen s p) p op h e (λ same. subst (λ ls. ends op (levels_at s p.0) ls ≡ false) (own_levels s p op) (own same))
 
@@ -98,17 +101,21 @@ not_ended _ (l ∷ ls) (k ∷ later) e ne = refl
 not_end : (s : State) (p : Pid) (op : Op) (n : Node) → names (levels_at (after s p op) p.0) n ≡ true → op ≢ End
 not_end s p op n e is = cc (sym (ap (λ x. names (levels_at (after s p x) p.0) n) is) ∙ e, ap (λ ls. names ls n) (own_levels s p End ∙ ended_levels s p))
 
-guard_stays : (s : State) (p : Pid) (op : Op) (q : Pid) (row : Node) → (q.0 ≡ p.0 → ends op (levels_at s p.0) (levels_at (after s p op) p.0) ≡ false) → HoldsToEnd s.holds q row → HoldsToEnd (after s p op).holds q row
+guard_stays : (s : State) (p : Pid) (op : Op) (q : Pid) (row : Node)
+    → (q.0 ≡ p.0 → ends op (levels_at s p.0) (levels_at (after s p op) p.0) ≡ false) → HoldsToEnd s.holds q row
+    → HoldsToEnd (after s p op).holds q row
 guard_stays s p op q row own h = (h.0, end_stays s p op _ h.1 own)
 
 -- ---- one writer
 
-pub one_writer : (guard : Guard) (s : State) (p q : Pid) (n : Node) → is_guarded guard n ≡ true → IsGuarded guard s → names (levels_at s p.0) n ≡ true → names (levels_at s q.0) n ≡ true → p.0 ≡ q.0
+pub one_writer : (guard : Guard) (s : State) (p q : Pid) (n : Node) → is_guarded guard n ≡ true → IsGuarded guard s
+    → names (levels_at s p.0) n ≡ true → names (levels_at s q.0) n ≡ true → p.0 ≡ q.0
 one_writer guard s p q n gd k e f =
     let row = some_of (guard n) gd in
     one_holder s.holds p q row.0 k.free (k.held p n row.0 row.1 e) (k.held q n row.0 row.1 f)
 
-others_none : (guard : Guard) (s : State) (p : Pid) (n : Node) → is_guarded guard n ≡ true → IsGuarded guard s → names (levels_at s p.0) n ≡ true → (q : ℕ) → q ≢ p.0 → outermost (levels_at s q) n ≡ None
+others_none : (guard : Guard) (s : State) (p : Pid) (n : Node) → is_guarded guard n ≡ true → IsGuarded guard s
+    → names (levels_at s p.0) n ≡ true → (q : ℕ) → q ≢ p.0 → outermost (levels_at s q) n ≡ None
 others_none guard s p n gd k e q ne = no_name _ (λ f. ne (one_writer guard s (record { 0 = q }) p n gd k f e))
 
 -- ---- the store stays guarded
@@ -124,30 +131,39 @@ opening_guarded guard pids g = record {
     within zero q e = cc (ap is_some (get-empty {X = Levels} nat_cmp q), e)
     within (suc k) q e = by (eq_by_cmp nat_cmp q (suc k)) refl (sym (ap is_some (get-insert nat_cmp_total (all_live k) (suc k) [] q)) ∙ e) (within k q)
       where
-        by : (b : Bool) → eq_by_cmp nat_cmp q (suc k) ≡ b → is_some (cond b (Some []) (get (all_live k) q)) ≡ true → (contains_key (all_live k) q ≡ true → (0 < q) × (q ≤ k)) → (0 < q) × (q ≤ suc k)
+        by : (b : Bool) → eq_by_cmp nat_cmp q (suc k) ≡ b → is_some (cond b (Some []) (get (all_live k) q)) ≡ true
+            → (contains_key (all_live k) q ≡ true → (0 < q) × (q ≤ k)) → (0 < q) × (q ≤ suc k)
         by true t f rest = let same : q ≡ suc k = one_key nat_cmp-IsAntisymmetric q (suc k) t in (omega (arith, same), omega (arith, same))
         by false t f rest = let h = rest f in (h.0, omega (arith, h.1))
 
-still_numbered : (s : State) (p : Pid) (op : Op) → is_live s p ≡ true → ((q : Pid) → is_live s q ≡ true → (0 < q.0) × (q.0 ≤ s.pids)) → (q : Pid) → is_live (after s p op) q ≡ true → (0 < q.0) × (q.0 ≤ s.pids)
+still_numbered : (s : State) (p : Pid) (op : Op) → is_live s p ≡ true
+    → ((q : Pid) → is_live s q ≡ true → (0 < q.0) × (q.0 ≤ s.pids)) → (q : Pid) → is_live (after s p op) q ≡ true
+    → (0 < q.0) × (q.0 ≤ s.pids)
 unfolding after
 still_numbered s p op live was q e = by (eq_by_cmp nat_cmp q.0 p.0) refl (sym (ap is_some (get-placed nat_cmp_total s.levels p.0 (live_with op (turn (seen s p) p op).levels) q.0)) ∙ e)
   where
-    by : (b : Bool) → eq_by_cmp nat_cmp q.0 p.0 ≡ b → is_some (cond b (live_with op (turn (seen s p) p op).levels) (get s.levels q.0)) ≡ true → (0 < q.0) × (q.0 ≤ s.pids)
+    by : (b : Bool) → eq_by_cmp nat_cmp q.0 p.0 ≡ b
+        → is_some (cond b (live_with op (turn (seen s p) p op).levels) (get s.levels q.0)) ≡ true
+        → (0 < q.0) × (q.0 ≤ s.pids)
     by true t f = was q (ap (contains_key s.levels) (one_key nat_cmp-IsAntisymmetric q.0 p.0 t) ∙ live)
     by false t f = was q f
 
 module _ (guard : Guard) (s : State) (p : Pid) (op : Op) (may : Respects guard s p op) (k : IsGuarded guard s) where
   -- who has the node after its turn held the guard before it
-  held_before : (n row : Node) → guard n ≡ Some row → names (levels_at (after s p op) p.0) n ≡ true → HoldsToEnd s.holds p row
+  held_before : (n row : Node) → guard n ≡ Some row → names (levels_at (after s p op) p.0) n ≡ true
+      → HoldsToEnd s.holds p row
   held_before n row is e = by (turned guard s p n row is op may) (ap (λ ls. names ls n) (sym (own_levels s p op)) ∙ e)
     where
-      by : {b : Bool} {v v' : Option Value} {o : Option (Option Value)} → IsTurned (HoldsToEnd s.holds p row) b (outermost (levels_at s p.0) n) v o v' → is_some o ≡ true → HoldsToEnd s.holds p row
+      by : {b : Bool} {v v' : Option Value} {o : Option (Option Value)}
+          → IsTurned (HoldsToEnd s.holds p row) b (outermost (levels_at s p.0) n) v o v' → is_some o ≡ true
+          → HoldsToEnd s.holds p row
       by (Left c same val) f = k.held p n row is (ap is_some (sym same) ∙ f)
       by (Wrote c own there val) f = own
       by (Undid c there val) f = k.held p n row is there
       by (Committed c there none val) f = k.held p n row is there
 
-  held_after : (q : Pid) (n row : Node) → guard n ≡ Some row → names (levels_at (after s p op) q.0) n ≡ true → (q.0 ≡ p.0) ⊎ (q.0 ≢ p.0) → HoldsToEnd (after s p op).holds q row
+  held_after : (q : Pid) (n row : Node) → guard n ≡ Some row → names (levels_at (after s p op) q.0) n ≡ true
+      → (q.0 ≡ p.0) ⊎ (q.0 ≢ p.0) → HoldsToEnd (after s p op).holds q row
   held_after q n row is e (inl same) =
       let f : names (levels_at (after s p op) p.0) n ≡ true = ap (λ x. names (levels_at (after s p op) x) n) (sym same) ∙ e in
       guard_stays s p op q row (λ _. not_ended op (levels_at s p.0) (levels_at (after s p op) p.0) (open_of _ n f) (not_end s p op n f))
@@ -163,39 +179,50 @@ module _ (guard : Guard) (s : State) (p : Pid) (op : Op) (may : Respects guard s
 
 -- ---- cleared values
 
-upto_none : (s : State) (n : Node) (k : ℕ) → ((q : ℕ) → q ≤ k → outermost (levels_at s q) n ≡ None) → cleared_upto s k n ≡ get s.globals n
+upto_none : (s : State) (n : Node) (k : ℕ) → ((q : ℕ) → q ≤ k → outermost (levels_at s q) n ≡ None)
+    → cleared_upto s k n ≡ get s.globals n
 upto_none s n zero none = refl
 upto_none s n (suc k) none = ap (λ o. unwrap_or o (cleared_upto s k n)) (none (suc k) (omega arith)) ∙ upto_none s n k (λ q le. none q (omega arith))
 
-upto_one : (s : State) (p : ℕ) (n : Node) (k : ℕ) → ((q : ℕ) → q ≢ p → outermost (levels_at s q) n ≡ None) → 0 < p → p ≤ k → cleared_upto s k n ≡ unwrap_or (outermost (levels_at s p) n) (get s.globals n)
+upto_one : (s : State) (p : ℕ) (n : Node) (k : ℕ) → ((q : ℕ) → q ≢ p → outermost (levels_at s q) n ≡ None) → 0 < p
+    → p ≤ k → cleared_upto s k n ≡ unwrap_or (outermost (levels_at s p) n) (get s.globals n)
 upto_one s p n zero none lo hi = absurd (omega arith)
 upto_one s p n (suc k) none lo hi = by (same_or (suc k) p) (upto_one s p n k none lo)
   where
-    by : (suc k ≡ p) ⊎ (suc k ≢ p) → (p ≤ k → cleared_upto s k n ≡ unwrap_or (outermost (levels_at s p) n) (get s.globals n)) → unwrap_or (outermost (levels_at s (suc k)) n) (cleared_upto s k n) ≡ unwrap_or (outermost (levels_at s p) n) (get s.globals n)
+    by : (suc k ≡ p) ⊎ (suc k ≢ p)
+        → (p ≤ k → cleared_upto s k n ≡ unwrap_or (outermost (levels_at s p) n) (get s.globals n))
+        → unwrap_or (outermost (levels_at s (suc k)) n) (cleared_upto s k n) ≡ unwrap_or (outermost (levels_at s p) n) (get s.globals n)
     by (inl same) rest =
         ap (λ j. unwrap_or (outermost (levels_at s j) n) (cleared_upto s k n)) same
         ∙ ap (unwrap_or (outermost (levels_at s p) n)) (upto_none s n k (λ q le. none q (λ e. absurd (omega (arith, e, same, le)))))
     by (inr ne) rest = ap (λ o. unwrap_or o (cleared_upto s k n)) (none (suc k) ne) ∙ rest (omega (arith, ne, hi))
 
-pub cleared_one : (s : State) (p : ℕ) (n : Node) → 0 < p → p ≤ s.pids → ((q : ℕ) → q ≢ p → names (levels_at s q) n ≡ false) → cleared s n ≡ unwrap_or (outermost (levels_at s p) n) (get s.globals n)
+pub cleared_one : (s : State) (p : ℕ) (n : Node) → 0 < p → p ≤ s.pids
+    → ((q : ℕ) → q ≢ p → names (levels_at s q) n ≡ false)
+    → cleared s n ≡ unwrap_or (outermost (levels_at s p) n) (get s.globals n)
 unfolding cleared
 cleared_one s p n lo hi none = upto_one s p n s.pids (λ q ne. none_is _ (none q ne)) lo hi
 
-pub cleared_guarded : (guard : Guard) (s : State) (p : Pid) (n : Node) → is_guarded guard n ≡ true → IsGuarded guard s → names (levels_at s p.0) n ≡ true → cleared s n ≡ unwrap_or (outermost (levels_at s p.0) n) (get s.globals n)
+pub cleared_guarded : (guard : Guard) (s : State) (p : Pid) (n : Node) → is_guarded guard n ≡ true → IsGuarded guard s
+    → names (levels_at s p.0) n ≡ true → cleared s n ≡ unwrap_or (outermost (levels_at s p.0) n) (get s.globals n)
 unfolding cleared
 cleared_guarded guard s p n gd k e = let r = k.numbered p (live_of s p n e) in upto_one s p.0 n s.pids (others_none guard s p n gd k e) r.0 r.1
 
-upto_left : (s t : State) (n : Node) → ((q : ℕ) → outermost (levels_at t q) n ≡ outermost (levels_at s q) n) → get t.globals n ≡ get s.globals n → (k : ℕ) → cleared_upto t k n ≡ cleared_upto s k n
+upto_left : (s t : State) (n : Node) → ((q : ℕ) → outermost (levels_at t q) n ≡ outermost (levels_at s q) n)
+    → get t.globals n ≡ get s.globals n → (k : ℕ) → cleared_upto t k n ≡ cleared_upto s k n
 upto_left s t n levels value zero = value
 upto_left s t n levels value (suc k) = λ i. unwrap_or (levels (suc k) i) (upto_left s t n levels value k i)
 
-cleared_left : (s t : State) (n : Node) → t.pids ≡ s.pids → ((q : ℕ) → outermost (levels_at t q) n ≡ outermost (levels_at s q) n) → get t.globals n ≡ get s.globals n → cleared t n ≡ cleared s n
+cleared_left : (s t : State) (n : Node) → t.pids ≡ s.pids
+    → ((q : ℕ) → outermost (levels_at t q) n ≡ outermost (levels_at s q) n) → get t.globals n ≡ get s.globals n
+    → cleared t n ≡ cleared s n
 unfolding cleared
 cleared_left s t n pids levels value = ap (λ k. cleared_upto t k n) pids ∙ upto_left s t n levels value s.pids
 
 module _ (guard : Guard) (s t : State) (p : Pid) (n : Node) (gd : is_guarded guard n ≡ true) (live : is_live s p ≡ true) (k : IsGuarded guard s) (k' : IsGuarded guard t)
     (pids : t.pids ≡ s.pids) (others : (q : ℕ) → q ≢ p.0 → levels_at t q ≡ levels_at s q) where
-  left_all : outermost (levels_at t p.0) n ≡ outermost (levels_at s p.0) n → (q : ℕ) → outermost (levels_at t q) n ≡ outermost (levels_at s q) n
+  left_all : outermost (levels_at t p.0) n ≡ outermost (levels_at s p.0) n → (q : ℕ)
+      → outermost (levels_at t q) n ≡ outermost (levels_at s q) n
   left_all same q = by (same_or q p.0)
     where
       by : (q ≡ p.0) ⊎ (q ≢ p.0) → outermost (levels_at t q) n ≡ outermost (levels_at s q) n
@@ -203,7 +230,9 @@ module _ (guard : Guard) (s t : State) (p : Pid) (n : Node) (gd : is_guarded gua
       by (inr ne) = ap (λ ls. outermost ls n) (others q ne)
 
   -- both by the levels of the process alone
-  both_one : ((q : ℕ) → q ≢ p.0 → outermost (levels_at s q) n ≡ None) → unwrap_or (outermost (levels_at t p.0) n) (get t.globals n) ≡ unwrap_or (outermost (levels_at s p.0) n) (get s.globals n) → cleared t n ≡ cleared s n
+  both_one : ((q : ℕ) → q ≢ p.0 → outermost (levels_at s q) n ≡ None)
+      → unwrap_or (outermost (levels_at t p.0) n) (get t.globals n) ≡ unwrap_or (outermost (levels_at s p.0) n) (get s.globals n)
+      → cleared t n ≡ cleared s n
   unfolding cleared
   both_one none same =
       let r = k.numbered p live in
@@ -212,7 +241,8 @@ module _ (guard : Guard) (s t : State) (p : Pid) (n : Node) (gd : is_guarded gua
       ∙ same ∙ sym (upto_one s p.0 n s.pids none r.0 r.1)
 
   -- the levels of all have lost the node
-  present : ((q : ℕ) → q ≢ p.0 → outermost (levels_at s q) n ≡ None) → outermost (levels_at t p.0) n ≡ None → cleared t n ≡ get t.globals n
+  present : ((q : ℕ) → q ≢ p.0 → outermost (levels_at s q) n ≡ None) → outermost (levels_at t p.0) n ≡ None
+      → cleared t n ≡ get t.globals n
   unfolding cleared
   present none gone =
       let r = k.numbered p live in
@@ -220,7 +250,9 @@ module _ (guard : Guard) (s t : State) (p : Pid) (n : Node) (gd : is_guarded gua
       ∙ upto_one t p.0 n s.pids (λ q ne. ap (λ ls. outermost ls n) (others q ne) ∙ none q ne) r.0 r.1
       ∙ ap (λ o. unwrap_or o (get t.globals n)) gone
 
-  moved : {Own : Type 0} {b : Bool} → IsTurned Own b (outermost (levels_at s p.0) n) (get s.globals n) (outermost (levels_at t p.0) n) (get t.globals n) → cleared t n ≡ cond b (get s.globals n) (cleared s n)
+  moved : {Own : Type 0} {b : Bool}
+      → IsTurned Own b (outermost (levels_at s p.0) n) (get s.globals n) (outermost (levels_at t p.0) n) (get t.globals n)
+      → cleared t n ≡ cond b (get s.globals n) (cleared s n)
   moved (Left c same value) = cleared_left s t n pids (left_all same) value ∙ sym (ap (λ x. cond x (get s.globals n) (cleared s n)) c)
   moved (Wrote c own there same) =
       both_one (λ q ne. ap (λ ls. outermost ls n) (sym (others q ne)) ∙ others_none guard t p n gd k' there q ne) same
@@ -228,7 +260,8 @@ module _ (guard : Guard) (s t : State) (p : Pid) (n : Node) (gd : is_guarded gua
   moved (Undid c there same) = both_one (others_none guard s p n gd k there) same ∙ sym (ap (λ x. cond x (get s.globals n) (cleared s n)) c)
   moved (Committed c there gone value) = present (others_none guard s p n gd k there) gone ∙ value ∙ sym (ap (λ x. cond x (get s.globals n) (cleared s n)) c)
 
-pub moves_at_commits : (guard : Guard) (s : State) (p : Pid) (op : Op) → is_live s p ≡ true → Respects guard s p op → IsGuarded guard s → MovesAtCommits guard s p op
+pub moves_at_commits : (guard : Guard) (s : State) (p : Pid) (op : Op) → is_live s p ≡ true → Respects guard s p op
+    → IsGuarded guard s → MovesAtCommits guard s p op
 moves_at_commits guard s p op live may k n gd =
     let row = some_of (guard n) gd in
     let t = turned guard s p n row.0 row.1 op may in
@@ -238,27 +271,40 @@ moves_at_commits guard s p op live may k n gd =
 
 -- ---- histories
 
-front_guarded : (guard : Guard) (s : State) (es fs : List Entry) → IsGuarded guard s → IsLegal s (es ++ fs) → AllRespect guard s (es ++ fs) → IsGuarded guard (state_after s es)
-front_guarded guard s [] fs k legal all = k
-front_guarded guard s (e ∷ es) fs k legal all = front_guarded guard (after s e.pid e.op) es fs (guarded_after guard s e.pid e.op all.0 k legal.0.0) legal.1 all.1
+front_guarded : (guard : Guard) (s : State) (es fs : List Entry) → IsGuarded guard s → IsLegalUnder guard s (es ++ fs)
+    → IsGuarded guard (state_after s es)
+front_guarded guard s [] fs k legal = k
+front_guarded guard s (e ∷ es) fs k legal =
+    front_guarded guard (after s e.pid e.op) es fs (guarded_after guard s e.pid e.op legal.1.0 k legal.0.0.0) (legal.0.1, legal.1.1)
 
-front_moves : (guard : Guard) (s : State) (es fs : List Entry) (e : Entry) → IsGuarded guard s → IsLegal s (es ++ e ∷ fs) → AllRespect guard s (es ++ e ∷ fs) → MovesAtCommits guard (state_after s es) e.pid e.op
-front_moves guard s [] fs e k legal all = moves_at_commits guard s e.pid e.op legal.0.0 all.0 k
-front_moves guard s (x ∷ es) fs e k legal all = front_moves guard (after s x.pid x.op) es fs e (guarded_after guard s x.pid x.op all.0 k legal.0.0) legal.1 all.1
+front_moves : (guard : Guard) (s : State) (es fs : List Entry) (e : Entry) → IsGuarded guard s
+    → IsLegalUnder guard s (es ++ e ∷ fs)
+    → MovesAtCommits guard (state_after s es) e.pid e.op
+front_moves guard s [] fs e k legal = moves_at_commits guard s e.pid e.op legal.0.0.0 legal.1.0 k
+front_moves guard s (x ∷ es) fs e k legal =
+    front_moves guard (after s x.pid x.op) es fs e (guarded_after guard s x.pid x.op legal.1.0 k legal.0.0.0) (legal.0.1, legal.1.1)
 
-pub history_guarded : (guard : Guard) (pids : ℕ) (g : Globals) (es fs : List Entry) → IsLegal (opening pids g) (es ++ fs) → AllRespect guard (opening pids g) (es ++ fs) → IsGuarded guard (state_after (opening pids g) es)
-history_guarded guard pids g es fs legal all = front_guarded guard (opening pids g) es fs (opening_guarded guard pids g) legal all
+cleared_from : (guard : Guard) (s : State) (es : List Entry) (n : Node) → is_guarded guard n ≡ true
+    → IsGuarded guard s → IsLegalUnder guard s es
+    → cleared (state_after s es) n ≡ last_committed s es n (cleared s n)
+cleared_from guard s [] n gd k legal = refl
+cleared_from guard s (e ∷ es) n gd k legal =
+    cleared_from guard (after s e.pid e.op) es n gd (guarded_after guard s e.pid e.op legal.1.0 k legal.0.0.0) (legal.0.1, legal.1.1)
+    ∙ ap (last_committed (after s e.pid e.op) es n) (moves_at_commits guard s e.pid e.op legal.0.0.0 legal.1.0 k n gd)
 
-pub history_moves : (guard : Guard) (pids : ℕ) (g : Globals) (es fs : List Entry) (e : Entry) → IsLegal (opening pids g) (es ++ e ∷ fs) → AllRespect guard (opening pids g) (es ++ e ∷ fs) → MovesAtCommits guard (state_after (opening pids g) es) e.pid e.op
-history_moves guard pids g es fs e legal all = front_moves guard (opening pids g) es fs e (opening_guarded guard pids g) legal all
+pub history_guarded : (guard : Guard) (pids : ℕ) (g : Globals) (es fs : List Entry)
+    → IsLegalUnder guard (opening pids g) (es ++ fs)
+    → IsGuarded guard (state_after (opening pids g) es)
+history_guarded guard pids g es fs = front_guarded guard (opening pids g) es fs (opening_guarded guard pids g)
 
-cleared_from : (guard : Guard) (s : State) (es : List Entry) (n : Node) → is_guarded guard n ≡ true → IsGuarded guard s → IsLegal s es → AllRespect guard s es → cleared (state_after s es) n ≡ last_committed s es n (cleared s n)
-cleared_from guard s [] n gd k legal all = refl
-cleared_from guard s (e ∷ es) n gd k legal all =
-    cleared_from guard (after s e.pid e.op) es n gd (guarded_after guard s e.pid e.op all.0 k legal.0.0) legal.1 all.1
-    ∙ ap (last_committed (after s e.pid e.op) es n) (moves_at_commits guard s e.pid e.op legal.0.0 all.0 k n gd)
+pub history_moves : (guard : Guard) (pids : ℕ) (g : Globals) (es fs : List Entry) (e : Entry)
+    → IsLegalUnder guard (opening pids g) (es ++ e ∷ fs)
+    → MovesAtCommits guard (state_after (opening pids g) es) e.pid e.op
+history_moves guard pids g es fs e = front_moves guard (opening pids g) es fs e (opening_guarded guard pids g)
 
-pub history_committed : (guard : Guard) (pids : ℕ) (g : Globals) (es : List Entry) (n : Node) → is_guarded guard n ≡ true → IsLegal (opening pids g) es → AllRespect guard (opening pids g) es → cleared (state_after (opening pids g) es) n ≡ last_committed (opening pids g) es n (get g n)
-history_committed guard pids g es n gd legal all =
-    cleared_from guard (opening pids g) es n gd (opening_guarded guard pids g) legal all
+pub history_committed : (guard : Guard) (pids : ℕ) (g : Globals) (es : List Entry) (n : Node)
+    → is_guarded guard n ≡ true
+    → IsLegalUnder guard (opening pids g) es → cleared (state_after (opening pids g) es) n ≡ last_committed (opening pids g) es n (get g n)
+history_committed guard pids g es n gd legal =
+    cleared_from guard (opening pids g) es n gd (opening_guarded guard pids g) legal
     ∙ ap (last_committed (opening pids g) es n) (cleared_opening pids g n)

@@ -24,9 +24,12 @@ use Rattle.store_core.proofs.Restored.{find_killed, get_killed}
 -- that the process holds the node's guard, and at_commit whether the turn is the outermost commit with the node in its level
 pub data IsTurned (Own : Type 0) (at_commit : Bool) (kept : Option (Option Value)) (value : Option Value) (kept' : Option (Option Value)) (value' : Option Value) : Type 0 where
   Left : at_commit ≡ false → kept' ≡ kept → value' ≡ value → IsTurned Own at_commit kept value kept' value'
-  Wrote : at_commit ≡ false → Own → is_some kept' ≡ true → unwrap_or kept' value' ≡ unwrap_or kept value → IsTurned Own at_commit kept value kept' value'
-  Undid : at_commit ≡ false → is_some kept ≡ true → unwrap_or kept' value' ≡ unwrap_or kept value → IsTurned Own at_commit kept value kept' value'
-  Committed : at_commit ≡ true → is_some kept ≡ true → kept' ≡ None → value' ≡ value → IsTurned Own at_commit kept value kept' value'
+  Wrote : at_commit ≡ false → Own → is_some kept' ≡ true → unwrap_or kept' value' ≡ unwrap_or kept value
+      → IsTurned Own at_commit kept value kept' value'
+  Undid : at_commit ≡ false → is_some kept ≡ true → unwrap_or kept' value' ≡ unwrap_or kept value
+      → IsTurned Own at_commit kept value kept' value'
+  Committed : at_commit ≡ true → is_some kept ≡ true → kept' ≡ None → value' ≡ value
+      → IsTurned Own at_commit kept value kept' value'
 
 -- ---- options
 
@@ -39,7 +42,8 @@ or_some None None v = refl
 or_some None (Some y) v = refl
 or_some (Some x) p v = refl
 
-first_kept : (o p : Option (Option Value)) (v w : Option Value) → unwrap_or (option_or o (option_or p (Some v))) w ≡ unwrap_or (option_or o p) v
+first_kept : (o p : Option (Option Value)) (v w : Option Value)
+    → unwrap_or (option_or o (option_or p (Some v))) w ≡ unwrap_or (option_or o p) v
 first_kept None None v w = refl
 first_kept None (Some y) v w = refl
 first_kept (Some x) p v w = refl
@@ -48,14 +52,16 @@ or_assoc : (o p q : Option (Option Value)) → option_or o (option_or p q) ≡ o
 or_assoc None p q = refl
 or_assoc (Some x) p q = refl
 
-or_value : (o p : Option (Option Value)) (v : Option Value) → unwrap_or o (unwrap_or p v) ≡ unwrap_or (option_or o p) v
+or_value : (o p : Option (Option Value)) (v : Option Value)
+    → unwrap_or o (unwrap_or p v) ≡ unwrap_or (option_or o p) v
 or_value None p v = refl
 or_value (Some x) p v = refl
 
 -- ---- levels
 
 -- what undoing all levels gives
-pub get-all_undone : (ls : Levels) (g : Globals) (n : Node) → get (all_undone g ls) n ≡ unwrap_or (outermost ls n) (get g n)
+pub get-all_undone : (ls : Levels) (g : Globals) (n : Node)
+    → get (all_undone g ls) n ≡ unwrap_or (outermost ls n) (get g n)
 get-all_undone [] g n = refl
 get-all_undone (l ∷ ls) g n =
     get-all_undone ls (undone g l) n
@@ -74,7 +80,8 @@ module _ (Own : Type 0) where
       let e : outermost (noted l es ∷ ls) n ≡ option_or (outermost ls n) (option_or (get l n) (Some v)) = ap (option_or (outermost ls n)) (get-noted es l n ∙ ap (option_or (get l n)) h.0) in
       Wrote refl h.2 (ap is_some e ∙ or_some (outermost ls n) (get l n) v) (ap (λ o. unwrap_or o v') e ∙ first_kept (outermost ls n) (get l n) v v')
 
-  begun_turned : (ls : Levels) (n : Node) (v : Option Value) → IsTurned Own false (outermost ls n) v (outermost (begun ls) n) v
+  begun_turned : (ls : Levels) (n : Node) (v : Option Value)
+      → IsTurned Own false (outermost ls n) v (outermost (begun ls) n) v
   begun_turned ls n v = by (nat_lt (length ls) 255)
     where
       by : (b : Bool) → IsTurned Own false (outermost ls n) v (outermost (cond b (empty ∷ ls) ls) n) v
@@ -85,22 +92,26 @@ module _ (Own : Type 0) where
   last_turned None v = Left refl refl refl
   last_turned (Some x) v = Committed refl refl refl refl
 
-  commit_turned : (ls : Levels) (n : Node) (v : Option Value) → IsTurned Own (last_has ls n) (outermost ls n) v (outermost (committed ls) n) v
+  commit_turned : (ls : Levels) (n : Node) (v : Option Value)
+      → IsTurned Own (last_has ls n) (outermost ls n) v (outermost (committed ls) n) v
   commit_turned [] n v = Left refl refl refl
   commit_turned (l ∷ []) n v = last_turned (get l n) v
   commit_turned (l ∷ k ∷ ls) n v = Left refl
       (ap (option_or (outermost ls n)) (get-noted (entries l) k n ∙ ap (option_or (get k n)) (sym (get-entries l n))) ∙ or_assoc (outermost ls n) (get k n) (get l n)) refl
 
-  one_undone : (o p : Option (Option Value)) (v : Option Value) → IsTurned Own false (option_or o p) v o (unwrap_or p v)
+  one_undone : (o p : Option (Option Value)) (v : Option Value)
+      → IsTurned Own false (option_or o p) v o (unwrap_or p v)
   one_undone o None v = Left refl (sym (or_none o)) refl
   one_undone None (Some y) v = Undid refl refl refl
   one_undone (Some x) (Some y) v = Undid refl refl refl
 
-  rollback_turned : (ls : Levels) (g : Globals) (n : Node) → IsTurned Own false (outermost ls n) (get g n) (outermost (rolled_back ls) n) (get (top_undone g ls) n)
+  rollback_turned : (ls : Levels) (g : Globals) (n : Node)
+      → IsTurned Own false (outermost ls n) (get g n) (outermost (rolled_back ls) n) (get (top_undone g ls) n)
   rollback_turned [] g n = Left refl refl refl
   rollback_turned (l ∷ ls) g n = subst (IsTurned Own false (outermost (l ∷ ls) n) (get g n) (outermost ls n)) (sym (get-undone l g n)) (one_undone (outermost ls n) (get l n) (get g n))
 
-  undo_turned : (ls : Levels) (g : Globals) (n : Node) → IsTurned Own false (outermost ls n) (get g n) None (get (all_undone g ls) n)
+  undo_turned : (ls : Levels) (g : Globals) (n : Node)
+      → IsTurned Own false (outermost ls n) (get g n) None (get (all_undone g ls) n)
   undo_turned ls g n = subst (IsTurned Own false (outermost ls n) (get g n) None) (sym (get-all_undone ls g n)) (by (outermost ls n) (get g n))
     where
       by : (o : Option (Option Value)) (v : Option Value) → IsTurned Own false o v None (unwrap_or o v)
@@ -113,28 +124,34 @@ module _ (guard : Guard) (s : State) (p : Pid) (n row : Node) (is : guard n ≡ 
   abbrev IsNoted : Olds → Option Value → Type 0
   IsNoted es v = ((find node_cmp n es ≡ None) × (v ≡ get s.globals n)) ⊎ ((find node_cmp n es ≡ Some (get s.globals n)) × (is_open (levels_at s p.0) ≡ true) × HoldsToEnd s.holds p row)
 
-  set_noted : (m : Node) (v : Value) → MayWrite guard s p m → IsNoted ((m, get s.globals m) ∷ []) (get (insert s.globals m v) n)
+  set_noted : (m : Node) (v : Value) → MayWrite guard s p m
+      → IsNoted ((m, get s.globals m) ∷ []) (get (insert s.globals m v) n)
   set_noted m v may = by (eq_by_cmp node_cmp n m) refl
     where
-      by : (b : Bool) → eq_by_cmp node_cmp n m ≡ b → IsNoted ((m, get s.globals m) ∷ []) (get (insert s.globals m v) n)
+      by : (b : Bool) → eq_by_cmp node_cmp n m ≡ b
+          → IsNoted ((m, get s.globals m) ∷ []) (get (insert s.globals m v) n)
       by true e =
           let same : n ≡ m = one_key node_exact n m e in
           let h = may row (ap guard (sym same) ∙ is) in
           inr (ap (λ b. cond b (Some (get s.globals m)) None) e ∙ ap (λ k. Some (get s.globals k)) (sym same), h.0, h.1)
       by false e = inl (ap (λ b. cond b (Some (get s.globals m)) None) e, get-insert node_total s.globals m v n ∙ ap (λ b. cond b (Some v) (get s.globals n)) e)
 
-  kill_noted : (m : Node) → ((k : Node) → covers m k ≡ true → contains_key s.globals k ≡ true → MayWrite guard s p k) → IsNoted (killed s.globals m) (get (retain_keys s.globals (λ k. not (covers m k))) n)
+  kill_noted : (m : Node) → ((k : Node) → covers m k ≡ true → contains_key s.globals k ≡ true → MayWrite guard s p k)
+      → IsNoted (killed s.globals m) (get (retain_keys s.globals (λ k. not (covers m k))) n)
   kill_noted m may = by (covers m n) refl (get s.globals n) refl
     where
-      find_is : (b : Bool) → covers m n ≡ b → (o : Option Value) → get s.globals n ≡ o → find node_cmp n (killed s.globals m) ≡ option_map Some (cond b o None)
+      find_is : (b : Bool) → covers m n ≡ b → (o : Option Value) → get s.globals n ≡ o
+          → find node_cmp n (killed s.globals m) ≡ option_map Some (cond b o None)
       find_is b c o e = find_killed s.globals m n ∙ ap (λ x. option_map Some (cond x (get s.globals n) None)) c ∙ ap (λ x. option_map Some (cond b x None)) e
 
-      by : (b : Bool) → covers m n ≡ b → (o : Option Value) → get s.globals n ≡ o → IsNoted (killed s.globals m) (get (retain_keys s.globals (λ k. not (covers m k))) n)
+      by : (b : Bool) → covers m n ≡ b → (o : Option Value) → get s.globals n ≡ o
+          → IsNoted (killed s.globals m) (get (retain_keys s.globals (λ k. not (covers m k))) n)
       by true c (Some v) e = let h = may n c (ap is_some e) row is in inr (find_is true c (Some v) e ∙ ap Some (sym e), h.0, h.1)
       by true c None e = inl (find_is true c None e, get_killed s.globals m n ∙ ap (λ b. cond (not b) (get s.globals n) None) c ∙ sym e)
       by false c o e = inl (find_is false c o e, get_killed s.globals m n ∙ ap (λ b. cond (not b) (get s.globals n) None) c)
 
-  number_kept : (m : Node) (o : Option ℤ) → (n ≡ m → get (stored s.globals m o) m ≡ get s.globals m) → get (stored s.globals m o) n ≡ get s.globals n
+  number_kept : (m : Node) (o : Option ℤ) → (n ≡ m → get (stored s.globals m o) m ≡ get s.globals m)
+      → get (stored s.globals m o) n ≡ get s.globals n
   number_kept m None may = refl
   number_kept m (Some z) may = by (eq_by_cmp node_cmp n m) refl
     where

@@ -14,6 +14,7 @@ use Rattle.lock_table.specs.Calls.{IsFree}
 use Rattle.tran_log.specs.Levels.{Levels}
 use Rattle.store_core.specs.declared.entry.Entry.{Entry}
 use Rattle.store_core.specs.Machine.{State, levels_at, is_live, is_open, after}
+use Rattle.store_core.specs.History.{IsLegal}
 use Rattle.store_core.specs.Cleared.{outermost, cleared}
 
 -- the node that guards a node; none where it isn't guarded
@@ -23,7 +24,7 @@ Guard = Node → Option Node
 abbrev pub is_guarded : Guard → Node → Bool
 is_guarded guard n = is_some (guard n)
 
--- the process holds the node exclusively to the end of its transaction, for its script or for an object
+-- the process holds the node exclusively to the end of its transaction, on whosever behalf
 abbrev pub HoldsToEnd : Holds → Pid → Node → Type 0
 HoldsToEnd hs p n = (o : Owner) × ((kept hs (hold p n Exclusive o)).to_end ≡ true)
 
@@ -35,7 +36,7 @@ names ls n = is_some (outermost ls n)
 abbrev pub MayWrite : Guard → State → Pid → Node → Type 0
 MayWrite guard s p n = (row : Node) → guard n ≡ Some row → (is_open (levels_at s p.0) ≡ true) × HoldsToEnd s.holds p row
 
--- it sets a node, or takes its value away, only where the process may write it; no increment changes a guarded node
+-- the process may write each node that the operation sets or takes a value from, and no increment changes a guarded node
 abbrev pub Respects : Guard → State → Pid → Op → Type 0
 Respects guard s p (Set n v) = MayWrite guard s p n
 Respects guard s p (Kill n) = (m : Node) → covers n m ≡ true → contains_key s.globals m ≡ true → MayWrite guard s p m
@@ -47,10 +48,14 @@ abbrev pub AllRespect : Guard → State → List Entry → Type 0
 AllRespect guard s [] = Unit {0}
 AllRespect guard s (e ∷ es) = Respects guard s e.pid e.op × AllRespect guard (after s e.pid e.op) es
 
--- a store in which each operation has respected the guard
+-- the history is legal, and each of its operations respects the guard
+abbrev pub IsLegalUnder : Guard → State → List Entry → Type 0
+IsLegalUnder guard s es = IsLegal s es × AllRespect guard s es
+
+-- no two holds are in conflict, a process with a guarded node in a level holds its guard, and live processes are numbered from 1 on
 pub record IsGuarded (guard : Guard) (s : State) : Type 0 where
-  pub free : IsFree s.holds  -- no two holds are in conflict
-  pub held : (p : Pid) (n row : Node) → guard n ≡ Some row → names (levels_at s p.0) n ≡ true → HoldsToEnd s.holds p row  -- who has a guarded node in a level holds its guard
+  pub free : IsFree s.holds
+  pub held : (p : Pid) (n row : Node) → guard n ≡ Some row → names (levels_at s p.0) n ≡ true → HoldsToEnd s.holds p row
   pub numbered : (p : Pid) → is_live s p ≡ true → (0 < p.0) × (p.0 ≤ s.pids)
 
 -- whether there is one level alone, and it has the node
@@ -66,12 +71,15 @@ commits ls _ n = false
 
 -- the cleared value of a guarded node stays as it was, or becomes the present value at such a commit
 abbrev pub MovesAtCommits : Guard → State → Pid → Op → Type 0
-MovesAtCommits guard s p op = (n : Node) → is_guarded guard n ≡ true → cleared (after s p op) n ≡ cond (commits (levels_at s p.0) op n) (get s.globals n) (cleared s n)
+MovesAtCommits guard s p op =
+    (n : Node) → is_guarded guard n ≡ true
+    → cleared (after s p op) n ≡ cond (commits (levels_at s p.0) op n) (get s.globals n) (cleared s n)
 
 -- what a node had at the last such commit of the history; where there is none, this value
 abbrev pub last_committed : State → List Entry → Node → Option Value → Option Value
 last_committed s [] n v = v
-last_committed s (e ∷ es) n v = last_committed (after s e.pid e.op) es n (cond (commits (levels_at s e.pid.0) e.op n) (get s.globals n) v)
+last_committed s (e ∷ es) n v =
+    last_committed (after s e.pid e.op) es n (cond (commits (levels_at s e.pid.0) e.op n) (get s.globals n) v)
 
 -- whether the operation ends the process, or its levels, first these and then those, are all left
 abbrev pub ends : Op → Levels → Levels → Bool

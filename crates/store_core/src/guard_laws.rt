@@ -9,14 +9,18 @@ ghost use Rattle.lock_table.specs.Holds.{kept};
 ghost use Rattle.store_core.specs.declared.entry.Entry.{Entry};
 ghost use Rattle.store_core.specs.Machine.{State, is_live, levels_at, after, opening};
 ghost use Rattle.store_core.specs.Cleared.{cleared, outermost};
-ghost use Rattle.store_core.specs.History.{IsLegal, state_after};
-ghost use Rattle.store_core.specs.Guard.{Guard, is_guarded, names, ends, Respects, AllRespect, IsGuarded, MovesAtCommits, last_committed};
+ghost use Rattle.store_core.specs.History.{state_after};
+ghost use Rattle.store_core.specs.Guard.{Guard, is_guarded, names, Respects, IsLegalUnder, IsGuarded};
+ghost use Rattle.store_core.specs.Guard.{MovesAtCommits, last_committed, ends};
 
 /// A law of locks kept to the end, for every state, process and operation: such a lock stays unless
 /// the operation ends its process, or leaves the last of its process's levels. An unlock doesn't
 /// take it.
 pub fn locks_to_the_end_stay()
-    ensures { (s : State) (p : Pid) (op : Op) (h : Hold) → (kept s.holds h).to_end ≡ true → (h.pid.0 ≡ p.0 → ends op (levels_at s p.0) (levels_at (after s p op) p.0) ≡ false) → (kept (after s p op).holds h).to_end ≡ true }
+    ensures { (s : State) (p : Pid) (op : Op) (h : Hold)
+        → (kept s.holds h).to_end ≡ true
+        → (h.pid.0 ≡ p.0 → ends op (levels_at s p.0) (levels_at (after s p op) p.0) ≡ false)
+        → (kept (after s p op).holds h).to_end ≡ true }
 {}
 
 /// A law of guarded nodes, for every guard: the store is guarded at the opening, and each operation
@@ -24,31 +28,44 @@ pub fn locks_to_the_end_stay()
 /// processes.
 pub fn guards_keep_writers_apart()
     ensures opening { (guard : Guard) (pids : ℕ) (g : Globals) → IsGuarded guard (opening pids g) }
-    ensures kept { (guard : Guard) (s : State) (p : Pid) (op : Op) → is_live s p ≡ true → Respects guard s p op → IsGuarded guard s → IsGuarded guard (after s p op) }
-    ensures alone { (guard : Guard) (s : State) (p q : Pid) (n : Node) → is_guarded guard n ≡ true → IsGuarded guard s → names (levels_at s p.0) n ≡ true → names (levels_at s q.0) n ≡ true → p.0 ≡ q.0 }
+    ensures kept { (guard : Guard) (s : State) (p : Pid) (op : Op)
+        → is_live s p ≡ true → Respects guard s p op → IsGuarded guard s → IsGuarded guard (after s p op) }
+    ensures alone { (guard : Guard) (s : State) (p q : Pid) (n : Node)
+        → is_guarded guard n ≡ true → IsGuarded guard s
+        → names (levels_at s p.0) n ≡ true → names (levels_at s q.0) n ≡ true → p.0 ≡ q.0 }
 {}
 
 /// A law of cleared globals: where one process alone may have a node in its levels, the node's
 /// cleared value is what the outermost of them that has it keeps, and otherwise the present value.
 /// In a guarded store this is so of each guarded node that a process has in a level.
 pub fn cleared_values_are_of_one_process()
-    ensures alone { (s : State) (p : ℕ) (n : Node) → 0 < p → p ≤ s.pids → ((q : ℕ) → q ≢ p → names (levels_at s q) n ≡ false) → cleared s n ≡ unwrap_or (outermost (levels_at s p) n) (get s.globals n) }
-    ensures guarded { (guard : Guard) (s : State) (p : Pid) (n : Node) → is_guarded guard n ≡ true → IsGuarded guard s → names (levels_at s p.0) n ≡ true → cleared s n ≡ unwrap_or (outermost (levels_at s p.0) n) (get s.globals n) }
+    ensures alone { (s : State) (p : ℕ) (n : Node)
+        → 0 < p → p ≤ s.pids → ((q : ℕ) → q ≢ p → names (levels_at s q) n ≡ false)
+        → cleared s n ≡ unwrap_or (outermost (levels_at s p) n) (get s.globals n) }
+    ensures guarded { (guard : Guard) (s : State) (p : Pid) (n : Node)
+        → is_guarded guard n ≡ true → IsGuarded guard s → names (levels_at s p.0) n ≡ true
+        → cleared s n ≡ unwrap_or (outermost (levels_at s p.0) n) (get s.globals n) }
 {}
 
 /// A law of guarded nodes, for every operation of a live process that respects the guard: it leaves
 /// the cleared value of each guarded node as it was, unless it is the outermost commit of a process
 /// that has the node in its level. Then the cleared value becomes the present one.
 pub fn cleared_values_move_at_commits()
-    ensures { (guard : Guard) (s : State) (p : Pid) (op : Op) → is_live s p ≡ true → Respects guard s p op → IsGuarded guard s → MovesAtCommits guard s p op }
+    ensures { (guard : Guard) (s : State) (p : Pid) (op : Op)
+        → is_live s p ≡ true → Respects guard s p op → IsGuarded guard s → MovesAtCommits guard s p op }
 {}
 
-/// The laws of guarded nodes over whole histories from the opening, in which each operation respects
-/// the guard: the store is guarded after every front of the history, and each entry moves cleared
-/// values at outermost commits alone. So the cleared value of a guarded node is what it had at the
-/// last outermost commit that had it in its level, and at the opening where there was none.
+/// The laws of guarded nodes over whole legal histories in which each operation respects the guard:
+/// the store is guarded after every front of the history, and each entry moves cleared values at
+/// outermost commits alone. So the cleared value of a guarded node is what it had at the last
+/// outermost commit with it in its level, and at the opening where there was none.
 pub fn histories_respect_guards()
-    ensures guarded { (guard : Guard) (pids : ℕ) (g : Globals) (es fs : List Entry) → IsLegal (opening pids g) (es ++ fs) → AllRespect guard (opening pids g) (es ++ fs) → IsGuarded guard (state_after (opening pids g) es) }
-    ensures cleared { (guard : Guard) (pids : ℕ) (g : Globals) (es fs : List Entry) (e : Entry) → IsLegal (opening pids g) (es ++ e ∷ fs) → AllRespect guard (opening pids g) (es ++ e ∷ fs) → MovesAtCommits guard (state_after (opening pids g) es) e.pid e.op }
-    ensures committed { (guard : Guard) (pids : ℕ) (g : Globals) (es : List Entry) (n : Node) → is_guarded guard n ≡ true → IsLegal (opening pids g) es → AllRespect guard (opening pids g) es → cleared (state_after (opening pids g) es) n ≡ last_committed (opening pids g) es n (get g n) }
+    ensures guarded { (guard : Guard) (pids : ℕ) (g : Globals) (es fs : List Entry)
+        → IsLegalUnder guard (opening pids g) (es ++ fs) → IsGuarded guard (state_after (opening pids g) es) }
+    ensures cleared { (guard : Guard) (pids : ℕ) (g : Globals) (es fs : List Entry) (e : Entry)
+        → IsLegalUnder guard (opening pids g) (es ++ e ∷ fs)
+        → MovesAtCommits guard (state_after (opening pids g) es) e.pid e.op }
+    ensures committed { (guard : Guard) (pids : ℕ) (g : Globals) (es : List Entry) (n : Node)
+        → is_guarded guard n ≡ true → IsLegalUnder guard (opening pids g) es
+        → cleared (state_after (opening pids g) es) n ≡ last_committed (opening pids g) es n (get g n) }
 {}
