@@ -89,7 +89,8 @@ pub end_stays : (s : State) (p : Pid) (op : Op) (h : Hold) → IsToEnd s.holds h
     → (h.pid.0 ≡ p.0 → ends op (levels_at s p.0) (levels_at (after s p op) p.0) ≡ false)
     → IsToEnd (after s p op).holds h
 unfolding after
-end_stays s p op h e own = held_stays (seen s p) p op h e (λ same. subst (λ ls. ends op (levels_at s p.0) ls ≡ false) (own_levels s p op) (own same))
+end_stays s p op h e own =
+    held_stays (seen s p) p op h e (λ same. subst (λ ls. ends op (levels_at s p.0) ls ≡ false) (own_levels s p op) (own same))
 
 -- with a level left, not all are left
 not_ended : (op : Op) (ls later : Levels) → is_open later ≡ true → op ≢ End → ends op ls later ≡ false
@@ -99,7 +100,9 @@ not_ended _ (l ∷ ls) [] e ne = cc
 not_ended _ (l ∷ ls) (k ∷ later) e ne = refl
 
 not_end : (s : State) (p : Pid) (op : Op) (n : Node) → names (levels_at (after s p op) p.0) n ≡ true → op ≢ End
-not_end s p op n e is = cc (sym (ap (λ x. names (levels_at (after s p x) p.0) n) is) ∙ e, ap (λ ls. names ls n) (own_levels s p End ∙ ended_levels s p))
+not_end s p op n e is =
+    let gone = ap (λ ls. names ls n) (own_levels s p End ∙ ended_levels s p) in
+    cc (sym (ap (λ x. names (levels_at (after s p x) p.0) n) is) ∙ e, gone)
 
 guard_stays : (s : State) (p : Pid) (op : Op) (q : Pid) (row : Node)
     → (q.0 ≡ p.0 → ends op (levels_at s p.0) (levels_at (after s p op) p.0) ≡ false) → HoldsToEnd s.holds q row
@@ -129,18 +132,24 @@ opening_guarded guard pids g = record {
   where
     within : (k q : ℕ) → contains_key (all_live k) q ≡ true → (0 < q) × (q ≤ k)
     within zero q e = cc (ap is_some (get-empty {X = Levels} nat_cmp q), e)
-    within (suc k) q e = by (eq_by_cmp nat_cmp q (suc k)) refl (sym (ap is_some (get-insert nat_cmp_total (all_live k) (suc k) [] q)) ∙ e) (within k q)
+    within (suc k) q e =
+        let f = sym (ap is_some (get-insert nat_cmp_total (all_live k) (suc k) [] q)) ∙ e in
+        by (eq_by_cmp nat_cmp q (suc k)) refl f (within k q)
       where
         by : (b : Bool) → eq_by_cmp nat_cmp q (suc k) ≡ b → is_some (cond b (Some []) (get (all_live k) q)) ≡ true
             → (contains_key (all_live k) q ≡ true → (0 < q) × (q ≤ k)) → (0 < q) × (q ≤ suc k)
-        by true t f rest = let same : q ≡ suc k = one_key nat_cmp-IsAntisymmetric q (suc k) t in (omega (arith, same), omega (arith, same))
+        by true t f rest =
+            let same : q ≡ suc k = one_key nat_cmp-IsAntisymmetric q (suc k) t in
+            (omega (arith, same), omega (arith, same))
         by false t f rest = let h = rest f in (h.0, omega (arith, h.1))
 
 still_numbered : (s : State) (p : Pid) (op : Op) → is_live s p ≡ true
     → ((q : Pid) → is_live s q ≡ true → (0 < q.0) × (q.0 ≤ s.pids)) → (q : Pid) → is_live (after s p op) q ≡ true
     → (0 < q.0) × (q.0 ≤ s.pids)
 unfolding after
-still_numbered s p op live was q e = by (eq_by_cmp nat_cmp q.0 p.0) refl (sym (ap is_some (get-placed nat_cmp_total s.levels p.0 (live_with op (turn (seen s p) p op).levels) q.0)) ∙ e)
+still_numbered s p op live was q e =
+    let is = get-placed nat_cmp_total s.levels p.0 (live_with op (turn (seen s p) p op).levels) q.0 in
+    by (eq_by_cmp nat_cmp q.0 p.0) refl (sym (ap is_some is) ∙ e)
   where
     by : (b : Bool) → eq_by_cmp nat_cmp q.0 p.0 ≡ b
         → is_some (cond b (live_with op (turn (seen s p) p op).levels) (get s.levels q.0)) ≡ true
@@ -165,16 +174,20 @@ module _ (guard : Guard) (s : State) (p : Pid) (op : Op) (may : Respects guard s
   held_after : (q : Pid) (n row : Node) → guard n ≡ Some row → names (levels_at (after s p op) q.0) n ≡ true
       → (q.0 ≡ p.0) ⊎ (q.0 ≢ p.0) → HoldsToEnd (after s p op).holds q row
   held_after q n row is e (inl same) =
-      let f : names (levels_at (after s p op) p.0) n ≡ true = ap (λ x. names (levels_at (after s p op) x) n) (sym same) ∙ e in
-      guard_stays s p op q row (λ _. not_ended op (levels_at s p.0) (levels_at (after s p op) p.0) (open_of _ n f) (not_end s p op n f))
+      let later = levels_at (after s p op) p.0 in
+      let f : names later n ≡ true = ap (λ x. names (levels_at (after s p op) x) n) (sym same) ∙ e in
+      guard_stays s p op q row (λ _. not_ended op (levels_at s p.0) later (open_of later n f) (not_end s p op n f))
       (subst (λ x. HoldsToEnd s.holds x row) (sym (one_pid q p same)) (held_before n row is f))
-  held_after q n row is e (inr ne) = guard_stays s p op q row (λ same. absurd (ne same)) (k.held q n row is (ap (λ ls. names ls n) (sym (others_stay s p op q.0 ne)) ∙ e))
+  held_after q n row is e (inr ne) =
+      let f : names (levels_at s q.0) n ≡ true = ap (λ ls. names ls n) (sym (others_stay s p op q.0 ne)) ∙ e in
+      guard_stays s p op q row (λ same. absurd (ne same)) (k.held q n row is f)
 
   pub guarded_after : is_live s p ≡ true → IsGuarded guard (after s p op)
   guarded_after live = record {
     free = stays_free s p op k.free;
     held = λ q n row is e. held_after q n row is e (same_or q.0 p.0);
-    numbered = λ q e. subst (λ x. (0 < q.0) × (q.0 ≤ x)) (sym (same_pids s p op)) (still_numbered s p op live k.numbered q e);
+    numbered = λ q e.
+        subst (λ x. (0 < q.0) × (q.0 ≤ x)) (sym (same_pids s p op)) (still_numbered s p op live k.numbered q e);
   }
 
 -- ---- cleared values
@@ -182,7 +195,9 @@ module _ (guard : Guard) (s : State) (p : Pid) (op : Op) (may : Respects guard s
 upto_none : (s : State) (n : Node) (k : ℕ) → ((q : ℕ) → q ≤ k → outermost (levels_at s q) n ≡ None)
     → cleared_upto s k n ≡ get s.globals n
 upto_none s n zero none = refl
-upto_none s n (suc k) none = ap (λ o. unwrap_or o (cleared_upto s k n)) (none (suc k) (omega arith)) ∙ upto_none s n k (λ q le. none q (omega arith))
+upto_none s n (suc k) none =
+    ap (λ o. unwrap_or o (cleared_upto s k n)) (none (suc k) (omega arith))
+    ∙ upto_none s n k (λ q le. none q (omega arith))
 
 upto_one : (s : State) (p : ℕ) (n : Node) (k : ℕ) → ((q : ℕ) → q ≢ p → outermost (levels_at s q) n ≡ None) → 0 < p
     → p ≤ k → cleared_upto s k n ≡ unwrap_or (outermost (levels_at s p) n) (get s.globals n)
@@ -206,7 +221,9 @@ cleared_one s p n lo hi none = upto_one s p n s.pids (λ q ne. none_is _ (none q
 pub cleared_guarded : (guard : Guard) (s : State) (p : Pid) (n : Node) → is_guarded guard n ≡ true → IsGuarded guard s
     → names (levels_at s p.0) n ≡ true → cleared s n ≡ unwrap_or (outermost (levels_at s p.0) n) (get s.globals n)
 unfolding cleared
-cleared_guarded guard s p n gd k e = let r = k.numbered p (live_of s p n e) in upto_one s p.0 n s.pids (others_none guard s p n gd k e) r.0 r.1
+cleared_guarded guard s p n gd k e =
+    let r = k.numbered p (live_of s p n e) in
+    upto_one s p.0 n s.pids (others_none guard s p n gd k e) r.0 r.1
 
 upto_left : (s t : State) (n : Node) → ((q : ℕ) → outermost (levels_at t q) n ≡ outermost (levels_at s q) n)
     → get t.globals n ≡ get s.globals n → (k : ℕ) → cleared_upto t k n ≡ cleared_upto s k n
@@ -219,8 +236,12 @@ cleared_left : (s t : State) (n : Node) → t.pids ≡ s.pids
 unfolding cleared
 cleared_left s t n pids levels value = ap (λ k. cleared_upto t k n) pids ∙ upto_left s t n levels value s.pids
 
-module _ (guard : Guard) (s t : State) (p : Pid) (n : Node) (gd : is_guarded guard n ≡ true) (live : is_live s p ≡ true) (k : IsGuarded guard s) (k' : IsGuarded guard t)
-    (pids : t.pids ≡ s.pids) (others : (q : ℕ) → q ≢ p.0 → levels_at t q ≡ levels_at s q) where
+-- a turn of the process to these levels and globals
+abbrev Turned : Type 0 → Bool → State → Pid → Node → Levels → Globals → Type 0
+Turned Own c s p n ls g = IsTurned Own c (outermost (levels_at s p.0) n) (get s.globals n) (outermost ls n) (get g n)
+
+module _ (guard : Guard) (s t : State) (p : Pid) (n : Node) (gd : is_guarded guard n ≡ true) (live : is_live s p ≡ true)
+    (k : IsGuarded guard s) (k' : IsGuarded guard t) (pids : t.pids ≡ s.pids) (others : (q : ℕ) → q ≢ p.0 → levels_at t q ≡ levels_at s q) where
   left_all : outermost (levels_at t p.0) n ≡ outermost (levels_at s p.0) n → (q : ℕ)
       → outermost (levels_at t q) n ≡ outermost (levels_at s q) n
   left_all same q = by (same_or q p.0)
@@ -240,6 +261,9 @@ module _ (guard : Guard) (s t : State) (p : Pid) (n : Node) (gd : is_guarded gua
       ∙ upto_one t p.0 n s.pids (λ q ne. ap (λ ls. outermost ls n) (others q ne) ∙ none q ne) r.0 r.1
       ∙ same ∙ sym (upto_one s p.0 n s.pids none r.0 r.1)
 
+  chosen : {b c : Bool} → c ≡ b → cond c (get s.globals n) (cleared s n) ≡ cond b (get s.globals n) (cleared s n)
+  chosen e = ap (λ x. cond x (get s.globals n) (cleared s n)) e
+
   -- the levels of all have lost the node
   present : ((q : ℕ) → q ≢ p.0 → outermost (levels_at s q) n ≡ None) → outermost (levels_at t p.0) n ≡ None
       → cleared t n ≡ get t.globals n
@@ -250,24 +274,26 @@ module _ (guard : Guard) (s t : State) (p : Pid) (n : Node) (gd : is_guarded gua
       ∙ upto_one t p.0 n s.pids (λ q ne. ap (λ ls. outermost ls n) (others q ne) ∙ none q ne) r.0 r.1
       ∙ ap (λ o. unwrap_or o (get t.globals n)) gone
 
-  moved : {Own : Type 0} {b : Bool}
-      → IsTurned Own b (outermost (levels_at s p.0) n) (get s.globals n) (outermost (levels_at t p.0) n) (get t.globals n)
-      → cleared t n ≡ cond b (get s.globals n) (cleared s n)
-  moved (Left c same value) = cleared_left s t n pids (left_all same) value ∙ sym (ap (λ x. cond x (get s.globals n) (cleared s n)) c)
-  moved (Wrote c own there same) =
-      both_one (λ q ne. ap (λ ls. outermost ls n) (sym (others q ne)) ∙ others_none guard t p n gd k' there q ne) same
-      ∙ sym (ap (λ x. cond x (get s.globals n) (cleared s n)) c)
-  moved (Undid c there same) = both_one (others_none guard s p n gd k there) same ∙ sym (ap (λ x. cond x (get s.globals n) (cleared s n)) c)
-  moved (Committed c there gone value) = present (others_none guard s p n gd k there) gone ∙ value ∙ sym (ap (λ x. cond x (get s.globals n) (cleared s n)) c)
+  moved : {Own : Type 0} {c : Bool} → Turned Own c s p n (levels_at t p.0) t.globals → cleared t n ≡ cond c (get s.globals n) (cleared s n)
+  moved (Left other same value) = cleared_left s t n pids (left_all same) value ∙ sym (chosen other)
+  moved (Wrote other own there same) =
+      let none : (q : ℕ) → q ≢ p.0 → outermost (levels_at s q) n ≡ None = λ q ne.
+      ap (λ ls. outermost ls n) (sym (others q ne)) ∙ others_none guard t p n gd k' there q ne in
+      both_one none same ∙ sym (chosen other)
+  moved (Undid other there same) = both_one (others_none guard s p n gd k there) same ∙ sym (chosen other)
+  moved (Committed is there gone value) = present (others_none guard s p n gd k there) gone ∙ value ∙ sym (chosen is)
 
-pub moves_at_commits : (guard : Guard) (s : State) (p : Pid) (op : Op) → is_live s p ≡ true → Respects guard s p op
-    → IsGuarded guard s → MovesAtCommits guard s p op
+pub moves_at_commits : (guard : Guard) (s : State) (p : Pid) (op : Op) → is_live s p ≡ true → Respects guard s p op → IsGuarded guard s
+    → MovesAtCommits guard s p op
 moves_at_commits guard s p op live may k n gd =
     let row = some_of (guard n) gd in
-    let t = turned guard s p n row.0 row.1 op may in
-    moved guard s (after s p op) p n gd live k (guarded_after guard s p op may k live) (same_pids s p op) (others_stay s p op)
-    (subst (λ ls. IsTurned (HoldsToEnd s.holds p row.0) (commits (levels_at s p.0) op n) (outermost (levels_at s p.0) n) (get s.globals n) (outermost ls n) (get (after s p op).globals n)) (sym (own_levels s p op))
-    (subst (λ g. IsTurned (HoldsToEnd s.holds p row.0) (commits (levels_at s p.0) op n) (outermost (levels_at s p.0) n) (get s.globals n) (outermost (turn (seen s p) p op).levels n) (get g n)) (sym (turn_globals s p op)) t))
+    let c = commits (levels_at s p.0) op n in
+    let own = HoldsToEnd s.holds p row.0 in
+    moved guard s (after s p op) p n gd live k (guarded_after guard s p op may k live) (same_pids s p op)
+    (others_stay s p op)
+    (subst (λ ls. Turned own c s p n ls (after s p op).globals) (sym (own_levels s p op))
+    (subst (λ g. Turned own c s p n (turn (seen s p) p op).levels g) (sym (turn_globals s p op))
+    (turned guard s p n row.0 row.1 op may)))
 
 -- ---- histories
 
