@@ -3,7 +3,7 @@ use Rattle.std.proofs.Common.{◌≡◌, ◌≢◌, ℕ, zero, suc, ◌+◌, ◌
 use Rattle.schema_kinds.specs.declared.tree.ClassTree.{ClassTree}
 use Rattle.class_link.specs.declared.error.LinkWhy.{LinkWhy}
 use Rattle.class_link.specs.declared.error.LinkWhy.TheVariants.{RepeatedClass, UnknownSuper, SuperRing, KindClash, UnknownType, BadType, SerialRing, NotYet, NoInverse, UnknownIndexProperty, BadIndexProperty, NameClash, BadParameter, TooMany}
-use Rattle.class_link.specs.Facts.{facts_of}
+use Rattle.class_facts.specs.Facts.{facts_of}
 use Rattle.class_link.specs.Refusal.{test_of, Has, group_of, number_of, IsUpTo, IsFirstReason, shape_reasons, name_reasons, why_or, late_reason}
 use Rattle.class_link.specs.Passes.{IsFirstOf}
 use Rattle.class_link.specs.Linking.{NoneBelow}

@@ -1,24 +1,24 @@
 -- The passes before the last one find the first reason of their groups.
-use Rattle.std.proofs.Common.{◌≡◌, ◌≢◌, ℕ, zero, suc, ◌+◌, ◌<◌, ◌≤◌, ◌⊎◌, inl, inr, Bool, true, false, cond, ◌||◌, List, [], ◌∷◌, ◌++◌, take, length, get_or, slice_get, Option, Some, None, option_map, refl, sym, ap, subst, ◌∙◌, IsTrue, append-nil, arith}
+use Rattle.std.proofs.Common.{◌≡◌, ◌≢◌, ℕ, zero, suc, ◌+◌, ◌<◌, ◌≤◌, ◌⊎◌, inl, inr, Bool, true, false, cond, List, [], ◌∷◌, ◌++◌, take, length, get_or, slice_get, Option, Some, None, refl, sym, ap, subst, ◌∙◌, append-nil, arith}
 use Rattle.std.specs.List.{list_any}
 use Rattle.std.proofs.lemmas.List.{append_assoc}
 use Rattle.schema_kinds.specs.declared.tree.ClassTree.{ClassTree}
 use Rattle.schema_kinds.specs.declared.hierarchy.Hierarchy.{Hierarchy}
-use Rattle.schema_kinds.specs.Links.{IsIn, row, IsInRing, IsAtOrBelow, AreAllAbove, mark_at}
+use Rattle.schema_kinds.specs.Links.{IsIn, row, IsInRing, AreAllAbove, mark_at}
 use Rattle.schema_kinds.specs.Hierarchy.{same_text, IsHierarchyOf}
 use Rattle.schema_kinds.proofs.Ranks.{any-IsIn, none-IsIn, within-IsIn}
 use Rattle.class_link.specs.declared.error.LinkWhy.{LinkWhy}
-use Rattle.class_link.specs.declared.error.LinkWhy.TheVariants.{RepeatedClass, UnknownSuper, SuperRing, KindClash, UnknownType, BadType, SerialRing, NotYet, NoInverse, UnknownIndexProperty, BadIndexProperty, NameClash, BadParameter, TooMany}
-use Rattle.class_link.specs.Trees.{headers_of, tree_names, super_links, supers_of}
-use Rattle.class_link.specs.Facts.{Facts, facts_of, props_in}
-use Rattle.class_link.specs.Reasons.{is_repeated, has_unknown, has_unknown_type}
+use Rattle.class_link.specs.declared.error.LinkWhy.TheVariants.{RepeatedClass, UnknownSuper, SuperRing, UnknownType}
+use Rattle.class_facts.specs.Trees.{headers_of, tree_names, super_links, supers_of}
+use Rattle.class_facts.specs.Facts.{facts_of, props_in}
+use Rattle.class_checks.specs.Reasons.{is_repeated, has_unknown, has_unknown_type}
 use Rattle.class_link.specs.Refusal.{Has, group_of, number_of, IsFirstReason}
 use Rattle.class_link.specs.Passes.{IsFirstOf, first_repeated, name_reason, ring_mark, super_reason, type_reason}
 use Rattle.class_link.specs.Linking.{NoneBelow, IsRefusal, IsOf}
 use Rattle.class_link.specs.declared.error.LinkError.{LinkError}
 use Rattle.class_link.specs.declared.error.LinkError.TheVariants as error
-use Rattle.class_link.proofs.FactLemmas.{length-names}
-use Rattle.class_link.proofs.Gathering.{super-within, length-links, above-tables}
+use Rattle.class_facts.proofs.FactLemmas.{length-names}
+use Rattle.class_facts.proofs.Gathering.{super-within, length-links, above-tables}
 use Rattle.class_link.proofs.FirstReason.{IsGroup}
 
 -- a test that gives one reason

@@ -1,6 +1,3 @@
-pub mod SpotLists
-pub mod Gathering
-pub mod FactLemmas
 pub mod FirstReason
 pub mod Groups
 pub mod Preparing

@@ -1,22 +1,22 @@
 -- What is found out before the last pass.
-use Rattle.std.proofs.Common.{◌≡◌, ℕ, zero, suc, ◌+◌, ◌<◌, Bool, List, [], ◌∷◌, map, length, slice_get, Option, Some, None, refl, sym, ap, subst, ◌∙◌, arith}
+use Rattle.std.proofs.Common.{◌≡◌, ℕ, ◌+◌, ◌<◌, Bool, List, [], ◌∷◌, map, length, slice_get, Some, refl, sym, ap, subst, ◌∙◌, arith}
 use Rattle.schema_kinds.specs.declared.tree.ClassTree.{ClassTree}
 use Rattle.schema_kinds.specs.declared.class.Class.{Class}
 use Rattle.schema_kinds.specs.declared.hierarchy.Hierarchy.{Hierarchy}
 use Rattle.schema_kinds.specs.Links.{AreWithin, climbs, mark_at}
 use Rattle.schema_kinds.specs.Hierarchy.{IsHierarchyOf}
 use Rattle.schema_kinds.specs.Classes as classes
-use Rattle.class_link.specs.declared.entry.Entry.{Entry}
-use Rattle.class_link.specs.declared.tables.Tables.{Tables}
-use Rattle.class_link.specs.Trees.{headers_of, super_links, top_of}
-use Rattle.class_link.specs.Facts.{Facts, facts_of, count_from, seen}
-use Rattle.class_link.specs.Reasons.{part_links, has_serial_ring}
-use Rattle.class_link.specs.Extents.{extent_of, extent_entries, entries_at}
-use Rattle.class_link.specs.Climbing.{climb_marks}
-use Rattle.class_link.specs.Meaning.{classes_from, classes_of}
+use Rattle.class_extents.specs.declared.entry.Entry.{Entry}
+use Rattle.class_facts.specs.Trees.{headers_of, top_of}
+use Rattle.class_facts.specs.Facts.{Facts, facts_of, count_from}
+use Rattle.class_checks.specs.Reasons.{part_links}
+use Rattle.class_extents.specs.Extents.{extent_of, extent_entries, entries_at}
+use Rattle.class_checks.specs.Climbing.{climb_marks}
+use Rattle.class_meaning.specs.Meaning.{classes_from, classes_of}
 use Rattle.class_link.specs.Linking.{ArePrepared, extent_here, extent_by, entries_or}
-use Rattle.class_link.proofs.Gathering.{super-within, length-links}
-use Rattle.class_link.proofs.FactLemmas.{get-count, climb_marks-climbs, parts-within, length-parts, length-names, top_of-small}
+use Rattle.class_facts.proofs.Gathering.{super-within, length-links}
+use Rattle.class_facts.proofs.FactLemmas.{get-count, length-names, top_of-small}
+use Rattle.class_checks.proofs.PartLinks.{climb_marks-climbs, parts-within, length-parts}
 
 module _ (trees : List ClassTree) (f : Facts) (are : f ≡ facts_of trees) where
   links-there : AreWithin f.links (length f.links)

@@ -1,12 +1,3 @@
-pub mod Spots
-pub mod Trees
-pub mod Types
-pub mod Gathered
-pub mod Facts
-pub mod Reasons
-pub mod Extents
 pub mod Refusal
-pub mod Meaning
-pub mod Climbing
 pub mod Passes
 pub mod Linking

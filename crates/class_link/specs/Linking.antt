@@ -5,15 +5,15 @@ use Rattle.obj_kinds.specs.declared.name.ClassName.{ClassName}
 use Rattle.schema_kinds.specs.declared.class.Class.{Class}
 use Rattle.schema_kinds.specs.declared.tree.ClassTree.{ClassTree}
 use Rattle.schema_kinds.specs.Links.{climbs, mark_at}
-use Rattle.class_link.specs.declared.entry.Entry.{Entry}
+use Rattle.class_extents.specs.declared.entry.Entry.{Entry}
 use Rattle.class_link.specs.declared.error.LinkWhy.{LinkWhy}
 use Rattle.class_link.specs.declared.error.LinkError.{LinkError}
 use Rattle.class_link.specs.declared.error.LinkError.TheVariants as error
-use Rattle.class_link.specs.Facts.{Facts, facts_of, count_from}
-use Rattle.class_link.specs.Reasons.{has_serial_ring}
-use Rattle.class_link.specs.Extents.{extent_entries}
+use Rattle.class_facts.specs.Facts.{Facts, facts_of, count_from}
+use Rattle.class_checks.specs.Reasons.{has_serial_ring}
+use Rattle.class_extents.specs.Extents.{extent_entries}
 use Rattle.class_link.specs.Refusal.{Has, group_of, IsFirstReason}
-use Rattle.class_link.specs.Meaning.{classes_of}
+use Rattle.class_meaning.specs.Meaning.{classes_of}
 
 -- no class has any reason, and the schema is what the trees mean
 pub record IsLinked (trees : List ClassTree) (schema : List Class) : Type 0 where

@@ -1,5 +1,5 @@
 -- What the passes over all classes look for, and what they answer.
-use Rattle.std.specs.Prelude.{◌≡◌, ℕ, ◌<◌, ◌+◌, ◌++◌, ◌∷◌, Bool, cond, List, [], get_or, length, slice_get, Option, Some, None}
+use Rattle.std.specs.Prelude.{◌≡◌, ℕ, ◌<◌, ◌+◌, ◌++◌, ◌∷◌, Bool, cond, List, [], get_or, slice_get, Option, Some, None}
 use Rattle.std.specs.List.{list_any}
 use Rattle.schema_kinds.specs.declared.tree.ClassTree.{ClassTree}
 use Rattle.schema_kinds.specs.declared.hierarchy.Hierarchy.{Hierarchy}
@@ -7,9 +7,9 @@ use Rattle.schema_kinds.specs.Links.{row, mark_at}
 use Rattle.schema_kinds.specs.Hierarchy.{same_text}
 use Rattle.class_link.specs.declared.error.LinkWhy.{LinkWhy}
 use Rattle.class_link.specs.declared.error.LinkWhy.TheVariants.{RepeatedClass, UnknownSuper, SuperRing, UnknownType}
-use Rattle.class_link.specs.Trees.{supers_of}
-use Rattle.class_link.specs.Facts.{Facts, props_in}
-use Rattle.class_link.specs.Reasons.{is_repeated, has_unknown, has_unknown_type}
+use Rattle.class_facts.specs.Trees.{supers_of}
+use Rattle.class_facts.specs.Facts.{Facts, props_in}
+use Rattle.class_checks.specs.Reasons.{is_repeated, has_unknown, has_unknown_type}
 
 -- of the places below n, the first that has a reason, with that reason
 abbrev pub IsFirstOf : (ℕ → Option LinkWhy) → ℕ → Option (ℕ × LinkWhy) → Type 0

@@ -2,13 +2,13 @@
 use Rattle.std.specs.Prelude.{◌≡◌, ℕ, ◌<◌, ◌≤◌, ◌⊎◌, Bool, false, List, [], ◌∷◌, length, find, Option, Some, None, slice_get, IsTrue}
 use Rattle.schema_kinds.specs.declared.tree.ClassTree.{ClassTree}
 use Rattle.schema_kinds.specs.Links.{IsInRing}
-use Rattle.class_link.specs.declared.spots.Spot.{Spot}
+use Rattle.class_facts.specs.declared.spots.Spot.{Spot}
 use Rattle.class_link.specs.declared.error.LinkWhy.{LinkWhy}
 use Rattle.class_link.specs.declared.error.LinkWhy.TheVariants.{RepeatedClass, UnknownSuper, SuperRing, KindClash, UnknownType, BadType, SerialRing, NotYet, NoInverse, UnknownIndexProperty, BadIndexProperty, NameClash, BadParameter, TooMany}
-use Rattle.class_link.specs.Trees.{tree_names, super_links, supers_of}
-use Rattle.class_link.specs.Facts.{Facts, facts_of, props_in, indexes_in}
-use Rattle.class_link.specs.Reasons.{is_repeated, has_unknown, has_unknown_type, has_kind_clash, has_bad_type, has_serial_ring, has_not_yet, has_no_inverse, has_unknown_index_prop, has_bad_index_prop, has_bad_parameter}
-use Rattle.class_link.specs.Extents.{has_name_clash, has_too_many}
+use Rattle.class_facts.specs.Trees.{super_links, supers_of}
+use Rattle.class_facts.specs.Facts.{Facts, facts_of, props_in, indexes_in}
+use Rattle.class_checks.specs.Reasons.{is_repeated, has_unknown, has_unknown_type, has_kind_clash, has_bad_type, has_serial_ring, has_not_yet, has_no_inverse, has_unknown_index_prop, has_bad_index_prop, has_bad_parameter}
+use Rattle.class_extents.specs.Extents.{has_name_clash, has_too_many}
 
 -- the reasons that are tests, for a class with these members; that a class is below itself is none
 abbrev pub test_with : List ClassTree → Facts → ℕ → List (List ℕ × Spot) → List (List ℕ × Spot) → LinkWhy → Bool

@@ -1,40 +1,28 @@
-ghost use Rattle.std.specs.Prelude.{◌≡◌, ℕ, List, ◌<◌, ◌&&◌, ◌||◌, length, find, nat_lt, nat_eq, IfOk, OnOk, slice_get, Some, Option};
+ghost use Rattle.std.specs.Prelude.{◌≡◌, ◌<◌, ◌&&◌, ◌||◌, length, find, nat_lt, IfOk, slice_get, Some, Option};
 ghost use Rattle.std.specs.List.{list_any};
-ghost use Rattle.schema_kinds.specs.Links.{row, mark_at, climbs};
+ghost use Rattle.schema_kinds.specs.Links.{climbs};
 ghost use Rattle.schema_kinds.specs.Classes.{is_persistent};
-ghost use Rattle.class_link.specs.Trees.{prop_at, index_at, spots_in, supers_of};
-ghost use Rattle.class_link.specs.Facts.{seen, sort_in, option_any, any_prop, any_index};
-ghost use Rattle.class_link.specs.Reasons.{has_serial_ring, has_kind_clash, has_bad_type, has_not_yet, has_no_inverse, has_unknown_index_prop, has_bad_index_prop, bad_parameter, has_bad_parameter, has_unknown_type};
-ghost use Rattle.class_link.specs.Extents.{extent_of, extent_entries, entries_with, clash_in, repeats, subnodes, has_name_clash, declared_indexes, long_method, long_tree, long_index, has_too_many};
+ghost use Rattle.class_facts.specs.Trees.{prop_at, index_at, spots_in};
+ghost use Rattle.class_facts.specs.Facts.{seen, sort_in, option_any, any_index};
+ghost use Rattle.class_checks.specs.Reasons.{has_serial_ring, has_kind_clash, has_no_inverse, bad_parameter, has_bad_parameter};
+ghost use Rattle.class_extents.specs.Extents.{extent_of, has_name_clash, declared_indexes, long_method, long_tree, long_index, has_too_many};
 ghost use Rattle.class_link.specs.Refusal.{test_with, shape_reasons, name_reasons, late_with};
 
-use crate::checks::{
-    any_bad_type, any_other_kind, any_persistent, any_to_come, any_unindexed, any_unknown_prop,
-    any_unknown_type, any_without_inverse,
-};
-use crate::entries::{any_clash, count_indexes, find_entries};
-use crate::entry::Entry;
 use crate::error::LinkWhy;
-use crate::members::{Members, own_props_of, supers_at};
-use crate::numbers::has_bad_parameter;
-use crate::props::{index_at_spot, prop_at_spot};
-use crate::spots::Spot;
-use crate::subnodes::{find_subnodes, has_repeated_word};
-use crate::tables::{Tables, has_ids, sort_at};
-use obj_kinds::{ClassName, NoMemory, Text};
-use schema_kinds::{ClassTree, Hierarchy, Index, Method};
-use sqlite_items::Items;
+use class_checks::{
+    any_bad_type, any_other_kind, any_persistent, any_to_come, any_unindexed, any_unknown_prop,
+    any_without_inverse, has_bad_parameter,
+};
+use class_extents::{
+    Entry, any_clash, count_indexes, find_entries, find_subnodes, has_repeated_word,
+};
+use class_facts::{
+    Members, Spot, Tables, has_ids, index_at_spot, own_props_of, prop_at_spot, sort_at, supers_at,
+    supers_named,
+};
+use obj_kinds::{NoMemory, Text};
+use schema_kinds::{ClassTree, Hierarchy, Method};
 use std::alloc::Global;
-
-/// The superclasses of a class as written.
-pub fn supers_named(trees: &[ClassTree], class: usize) -> &[ClassName]
-    ensures { result.now ≡ supers_of (slice_get trees.now class) }
-{
-    match trees.get(class) {
-        Some(tree) => tree.supers.as_slice(),
-        None => &[],
-    }
-}
 
 fn clashes_in_kind(
     trees: &[ClassTree],

@@ -1,26 +1,21 @@
-ghost use Rattle.std.specs.Prelude.{◌≡◌, ℕ, List, [], ◌+◌, ◌<◌, length, map, IfOk, IfErr, OnOk, slice_get, Some, None};
-ghost use Rattle.schema_kinds.specs.Links.{mark_at, climbs};
+ghost use Rattle.std.specs.Prelude.{◌≡◌, [], ◌<◌, length, IfOk, IfErr, OnOk, Some, None};
+ghost use Rattle.schema_kinds.specs.Links.{climbs};
 ghost use Rattle.schema_kinds.specs.Hierarchy.{IsHierarchyOf, names_of};
-ghost use Rattle.class_link.specs.Trees.{tree_names, headers_of};
-ghost use Rattle.class_link.specs.Facts.{seen, facts_of, count_from};
-ghost use Rattle.class_link.specs.Reasons.{has_serial_ring, part_links};
-ghost use Rattle.class_link.specs.Extents.{extent_of, extent_entries};
+ghost use Rattle.class_facts.specs.Trees.{headers_of};
+ghost use Rattle.class_facts.specs.Facts.{seen, facts_of};
+ghost use Rattle.class_checks.specs.Reasons.{has_serial_ring};
+ghost use Rattle.class_extents.specs.Extents.{extent_of};
 ghost use Rattle.class_link.specs.Refusal.{late_reason};
-ghost use Rattle.class_link.specs.Climbing.{climb_marks};
 ghost use Rattle.class_link.specs.Passes.{IsFirstOf, IfNoneThen, first_repeated};
 ghost use Rattle.class_link.specs.Linking.{IsLinked, IsRefusal, NoneBelow, IsOf, ArePrepared, refusal_of, extent_here};
 
-use crate::build::build_classes;
-use crate::climbing::mark_climbs;
-use crate::entry::Entry;
 use crate::error::{LinkError, LinkWhy};
-use crate::extents::{find_extents, find_part_links};
-use crate::facts::{find_sorts, find_tops};
 use crate::late::late_with;
-use crate::members::{Members, gather_all};
 use crate::passes::{add_names, find_headers, first_super_reason, first_type_reason};
-use crate::spots::SpotTable;
-use crate::tables::Tables;
+use class_checks::{find_part_links, mark_climbs};
+use class_extents::{Entry, find_extents};
+use class_facts::{Members, SpotTable, Tables, find_sorts, find_tops, gather_all};
+use class_meaning::build_classes;
 use obj_kinds::{ClassName, NoMemory};
 use schema_kinds::{
     ClassTree, ClassTrees, Headers, Hierarchy, Marks, NameTable, Schema, is_marked,

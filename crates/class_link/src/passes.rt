@@ -1,17 +1,13 @@
-ghost use Rattle.std.specs.Prelude.{◌≡◌, ℕ, List, [], ◌∷◌, ◌++◌, ◌+◌, ◌<◌, ◌^◌, not, length, map, take, IfOk, OnOk, IfSome, IfNone, slice_get, get_or, Some, None, Option, IsTrue, IsFalse, true, false};
+ghost use Rattle.std.specs.Prelude.{◌≡◌, [], ◌∷◌, ◌++◌, ◌+◌, ◌<◌, ◌^◌, not, length, IfOk, Some, None, Option, IsTrue};
 ghost use Rattle.std.specs.List.{list_any};
-ghost use Rattle.schema_kinds.specs.Links.{row, mark_at};
 ghost use Rattle.schema_kinds.specs.Hierarchy.{same_text, names_of};
-ghost use Rattle.class_link.specs.Trees.{tree_names, supers_of, headers_of, prop_at, spots_in};
-ghost use Rattle.class_link.specs.Facts.{seen, props_in, indexes_in, option_any};
-ghost use Rattle.class_link.specs.Reasons.{is_repeated, has_unknown, has_unknown_type, is_unknown_type};
+ghost use Rattle.class_facts.specs.Trees.{headers_of};
+ghost use Rattle.class_facts.specs.Facts.{seen};
 ghost use Rattle.class_link.specs.Passes.{IsFirstOf, IfNoneThen, first_repeated, ring_mark, super_reason, type_reason};
 
-use crate::checks::{any_unknown_super, any_unknown_type};
 use crate::error::LinkWhy;
-use crate::late::supers_named;
-use crate::members::supers_at;
-use crate::tables::Tables;
+use class_checks::{any_unknown_super, any_unknown_type};
+use class_facts::{Tables, supers_at, supers_named};
 use obj_kinds::NoMemory;
 use schema_kinds::{ClassTree, Header, Headers, Hierarchy, NameTable, copy_class_names};
 use sqlite_items::Items;

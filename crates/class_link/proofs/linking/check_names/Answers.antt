@@ -1,6 +1,6 @@
-use Rattle.std.proofs.Common.{◌≡◌, [], ap, sym, ◌∙◌}
+use Rattle.std.proofs.Common.{[], ap, sym, ◌∙◌}
 use Rattle.schema_kinds.specs.Hierarchy.{names_of}
-use Rattle.class_link.specs.Trees.{tree_names}
+use Rattle.class_facts.specs.Trees.{tree_names}
 use Rattle.class_link.specs.declared.error.LinkWhy.TheVariants.{RepeatedClass}
 use Rattle.class_link.specs.Passes.{name_reason, first_repeated}
 use Rattle.class_link.proofs.FirstReason.{found-first, none-more, none-first}

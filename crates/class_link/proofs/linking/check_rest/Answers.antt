@@ -1,5 +1,5 @@
-use Rattle.std.proofs.Common.{◌≡◌, length, subst, sym}
-use Rattle.class_link.specs.Facts.{Facts, seen, facts_of}
+use Rattle.std.proofs.Common.{length, subst, sym}
+use Rattle.class_facts.specs.Facts.{Facts, seen}
 use Rattle.class_link.specs.Refusal.{late_reason}
 use Rattle.class_link.specs.Passes.{IsFirstOf}
 use Rattle.class_link.proofs.FirstReason.{IsGroup, found-first, none-more, late-group}

@@ -1,6 +1,6 @@
-use Rattle.std.proofs.Common.{◌≡◌, map, slice_get, ap, ◌∙◌}
-use Rattle.class_link.specs.Trees.{sort_above, supers_of}
-use Rattle.class_link.proofs.FactLemmas.{seen-facts}
+use Rattle.std.proofs.Common.{map, slice_get, ap, ◌∙◌}
+use Rattle.class_facts.specs.Trees.{sort_above, supers_of}
+use Rattle.class_facts.proofs.FactLemmas.{seen-facts}
 use Rattle.class_link.proofs.Groups.{no-ring}
 use Rattle.class_link.proofs.linking.find_tables.Goals as goal
 

@@ -1,6 +1,6 @@
 use Rattle.std.proofs.Common.{◌≡◌, None, sym, ◌∙◌}
 use borrow.Author.Count.{below_more}
-use Rattle.class_link.specs.Facts.{seen}
+use Rattle.class_facts.specs.Facts.{seen}
 use Rattle.class_link.specs.Refusal.{late_reason}
 use Rattle.class_link.proofs.linking.first_late_reason.Goals as goal
 

@@ -1,5 +1,5 @@
 use Rattle.std.proofs.Common.{◌≡◌, ℕ, ◌<◌, None}
-use Rattle.class_link.specs.Facts.{seen}
+use Rattle.class_facts.specs.Facts.{seen}
 use Rattle.class_link.specs.Refusal.{late_reason}
 use Rattle.class_link.proofs.linking.first_late_reason.Given as goal
 

@@ -1,4 +1,4 @@
-use Rattle.class_link.specs.Facts.{seen}
+use Rattle.class_facts.specs.Facts.{seen}
 use Rattle.class_link.proofs.Preparing.{classes-fit}
 use Rattle.class_link.proofs.linking.link.Goals as goal
 

@@ -1,6 +1,6 @@
-use Rattle.std.proofs.Common.{◌≡◌, ap, ◌∙◌}
-use Rattle.class_link.specs.Facts.{seen}
-use Rattle.class_link.specs.Climbing.{climb_marks}
+use Rattle.std.proofs.Common.{ap, ◌∙◌}
+use Rattle.class_facts.specs.Facts.{seen}
+use Rattle.class_checks.specs.Climbing.{climb_marks}
 use Rattle.class_link.proofs.Preparing.{prepared}
 use Rattle.class_link.proofs.linking.prepare.Goals as goal
 

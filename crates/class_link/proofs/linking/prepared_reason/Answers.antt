@@ -1,5 +1,5 @@
-use Rattle.std.proofs.Common.{◌≡◌, ap, ◌∙◌}
-use Rattle.class_link.specs.Facts.{seen}
+use Rattle.std.proofs.Common.{ap, ◌∙◌}
+use Rattle.class_facts.specs.Facts.{seen}
 use Rattle.class_link.specs.Linking.{extent_here}
 use Rattle.class_link.proofs.Preparing.{extent-right}
 use Rattle.class_link.proofs.linking.prepared_reason.Goals as goal

@@ -1,5 +1,5 @@
 use Rattle.std.proofs.Common.{◌≡◌, take}
-use Rattle.class_link.specs.Trees.{headers_of}
+use Rattle.class_facts.specs.Trees.{headers_of}
 use Rattle.class_link.proofs.passes.find_headers.Given as goal
 
 abbrev pub invariant-loop-tree : goal.invariant-loop-tree

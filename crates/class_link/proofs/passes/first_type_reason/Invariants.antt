@@ -1,5 +1,5 @@
 use Rattle.std.proofs.Common.{◌≡◌, ℕ, ◌<◌, None}
-use Rattle.class_link.specs.Facts.{seen}
+use Rattle.class_facts.specs.Facts.{seen}
 use Rattle.class_link.specs.Passes.{type_reason}
 use Rattle.class_link.proofs.passes.first_type_reason.Given as goal
 

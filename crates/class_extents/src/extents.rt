@@ -1,0 +1,161 @@
+ghost use Rattle.std.specs.Prelude.{◌≡◌, ◌++◌, ◌+◌, ◌<◌, ◌^◌, ◌&&◌, length, map, fold, IfOk, OnOk};
+ghost use Rattle.class_facts.specs.Facts.{seen, count_from};
+ghost use Rattle.class_extents.specs.Extents.{is_in_extent, entries_in, add_entries_if, extent_entries};
+
+use crate::entries::{find_entries, push_entries};
+use crate::entry::Entry;
+use class_facts::{Tables, has_ids, sort_at};
+use obj_kinds::NoMemory;
+use schema_kinds::{ClassTree, Hierarchy};
+use sqlite_items::Items;
+use std::alloc::Global;
+
+fn is_below_root(hierarchy: &Hierarchy, tables: &Tables, root: usize, class: usize) -> bool
+    ensures { result ≡ is_in_extent (seen hierarchy.now tables.now) root class }
+{
+    has_ids(sort_at(hierarchy, tables, class))
+        && match tables.tops.get(class) {
+            Some(top) => *top == root,
+            None => false,
+        }
+}
+
+fn class_entries(
+    alloc: Global,
+    trees: &[ClassTree],
+    hierarchy: &Hierarchy,
+    tables: &Tables,
+    class: usize,
+) -> Result<Items<Entry>, NoMemory>
+    ensures { IfOk result (λ entries. entries ≡ entries_in trees.now (seen hierarchy.now tables.now) class) }
+{
+    match tables.members.get(class) {
+        Some(members) => {
+            let spots = members.props.spots(alloc)?;
+            let entries = find_entries(alloc, trees, members, spots.as_slice())?;
+            Ok(entries)
+        }
+        None => Ok(Items::new(alloc)),
+    }
+}
+
+fn add_class_entries(
+    alloc: Global,
+    trees: &[ClassTree],
+    hierarchy: &Hierarchy,
+    tables: &Tables,
+    root: usize,
+    class: usize,
+    entries: &mut Items<Entry>,
+) -> Result<(), NoMemory>
+    ensures { OnOk result (entries.new ≡ add_entries_if (is_in_extent (seen hierarchy.now tables.now) root class) entries.old (entries_in trees.now (seen hierarchy.now tables.now) class)) }
+{
+    if is_below_root(hierarchy, tables, root, class) {
+        let more = class_entries(alloc, trees, hierarchy, tables, class)?;
+        push_entries(entries, more.as_slice())?;
+    }
+    Ok(())
+}
+
+fn add_extent(
+    alloc: Global,
+    trees: &[ClassTree],
+    hierarchy: &Hierarchy,
+    tables: &Tables,
+    root: usize,
+    from: usize,
+    count: usize,
+    entries: &mut Items<Entry>,
+) -> Result<(), NoMemory>
+    requires { from + count < 2 ^ 63 }
+    ensures { OnOk result (entries.new ≡ fold (λ entries i. add_entries_if (is_in_extent (seen hierarchy.now tables.now) root i) entries (entries_in trees.now (seen hierarchy.now tables.now) i)) entries.old (count_from from count)) }
+{
+    if count == 0 {
+        return Ok(());
+    }
+    add_class_entries(alloc, trees, hierarchy, tables, root, from, entries)?;
+    add_extent(
+        alloc,
+        trees,
+        hierarchy,
+        tables,
+        root,
+        from + 1,
+        count - 1,
+        entries,
+    )?;
+    Ok(())
+}
+
+fn find_extent(
+    alloc: Global,
+    trees: &[ClassTree],
+    hierarchy: &Hierarchy,
+    tables: &Tables,
+    root: usize,
+) -> Result<Items<Entry>, NoMemory>
+    ensures { IfOk result (λ entries. entries ≡ extent_entries trees.now (seen hierarchy.now tables.now) root) }
+{
+    let mut entries = Items::new(alloc);
+    add_extent(
+        alloc,
+        trees,
+        hierarchy,
+        tables,
+        root,
+        0,
+        trees.len(),
+        &mut entries,
+    )?;
+    Ok(entries)
+}
+
+fn push_extents(
+    alloc: Global,
+    trees: &[ClassTree],
+    hierarchy: &Hierarchy,
+    tables: &Tables,
+    from: usize,
+    count: usize,
+    extents: &mut Items<Items<Entry>>,
+) -> Result<(), NoMemory>
+    requires { from + count < 2 ^ 63 }
+    ensures { OnOk result (extents.new ≡ extents.old ++ map (extent_entries trees.now (seen hierarchy.now tables.now)) (count_from from count)) }
+{
+    if count == 0 {
+        return Ok(());
+    }
+    extents.push(find_extent(alloc, trees, hierarchy, tables, from)?)?;
+    push_extents(
+        alloc,
+        trees,
+        hierarchy,
+        tables,
+        from + 1,
+        count - 1,
+        extents,
+    )?;
+    Ok(())
+}
+
+/// For each class the entries of the extent of which it is the root.
+pub fn find_extents(
+    alloc: Global,
+    trees: &[ClassTree],
+    hierarchy: &Hierarchy,
+    tables: &Tables,
+) -> Result<Items<Items<Entry>>, NoMemory>
+    ensures { IfOk result (λ extents. extents ≡ map (extent_entries trees.now (seen hierarchy.now tables.now)) (count_from 0 (length trees.now))) }
+{
+    let mut extents = Items::new(alloc);
+    push_extents(
+        alloc,
+        trees,
+        hierarchy,
+        tables,
+        0,
+        trees.len(),
+        &mut extents,
+    )?;
+    Ok(extents)
+}

@@ -1,0 +1,3 @@
+pub mod SpotLists
+pub mod Gathering
+pub mod FactLemmas

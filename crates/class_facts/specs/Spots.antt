@@ -1,0 +1,24 @@
+-- Members by name, with the spots where they are declared.
+use Rattle.std.specs.Prelude.{ℕ, cond, List, [], ◌∷◌, ◌++◌, Option, is_some, fold}
+use Rattle.std.specs.Map.{lookup}
+use Rattle.indexmap.specs.IndexMap.{insert_entry}
+use Rattle.schema_kinds.specs.Hierarchy.{same_text}
+use Rattle.class_facts.specs.declared.spots.Spot.{Spot}
+
+-- the spot of a name: that of its first pair
+abbrev pub spot_of : List ℕ → List (List ℕ × Spot) → Option Spot
+spot_of name spots = lookup (same_text name) spots
+
+-- a pair goes last, where its name isn't there yet
+abbrev pub add_spot : List (List ℕ × Spot) → List ℕ × Spot → List (List ℕ × Spot)
+add_spot spots pair = cond (is_some (spot_of pair.0 spots)) spots (spots ++ pair ∷ [])
+
+-- a pair takes the place of the one of its name, or goes last
+abbrev pub put_spot : List (List ℕ × Spot) → List ℕ × Spot → List (List ℕ × Spot)
+put_spot spots pair = insert_entry same_text spots pair.0 pair.1
+
+abbrev pub add_spots : List (List ℕ × Spot) → List (List ℕ × Spot) → List (List ℕ × Spot)
+add_spots spots pairs = fold add_spot spots pairs
+
+abbrev pub put_spots : List (List ℕ × Spot) → List (List ℕ × Spot) → List (List ℕ × Spot)
+put_spots spots pairs = fold put_spot spots pairs

@@ -1,0 +1,248 @@
+ghost use Rattle.std.specs.Prelude.{◌≡◌, ℕ, [], ◌++◌, ◌+◌, ◌<◌, ◌^◌, length, IfOk, OnOk, fold, filter_map, slice_get, Some};
+ghost use Rattle.schema_kinds.specs.Links.{row, IsInRing};
+ghost use Rattle.schema_kinds.specs.Hierarchy.{IsHierarchyOf};
+ghost use Rattle.class_facts.specs.Spots.{add_spots, put_spots};
+ghost use Rattle.class_facts.specs.Trees.{own_props, own_indexes, prop_spots, index_spots, supers_of, members_with, headers_of, super_links};
+ghost use Rattle.class_facts.specs.Gathered.{AreGathered, AreGatheredTo};
+
+use crate::spots::{Spot, SpotTable};
+use obj_kinds::{ClassName, NoMemory, Text};
+use schema_kinds::{ClassTree, Hierarchy, Index, PropTree};
+use sqlite_items::Items;
+use std::alloc::Global;
+
+/// The members of a class, inherited and its own, by the spots where they are declared.
+#[derive(Drop)]
+pub struct Members {
+    pub props: SpotTable,
+    pub indexes: Items<(Text, Spot)>,
+}
+
+/// The superclasses of a class as written.
+pub fn supers_named(trees: &[ClassTree], class: usize) -> &[ClassName]
+    ensures { result.now ≡ supers_of (slice_get trees.now class) }
+{
+    match trees.get(class) {
+        Some(tree) => tree.supers.as_slice(),
+        None => &[],
+    }
+}
+
+/// The properties that a class declares.
+pub fn own_props_of(trees: &[ClassTree], class: usize) -> &[PropTree]
+    ensures { result.now ≡ own_props (slice_get trees.now class) }
+{
+    match trees.get(class) {
+        Some(tree) => tree.props.as_slice(),
+        None => &[],
+    }
+}
+
+/// The indexes that a class declares.
+pub fn own_indexes_of(trees: &[ClassTree], class: usize) -> &[Index]
+    ensures { result.now ≡ own_indexes (slice_get trees.now class) }
+{
+    match trees.get(class) {
+        Some(tree) => tree.indexes.as_slice(),
+        None => &[],
+    }
+}
+
+fn put_props(
+    alloc: Global,
+    class: usize,
+    from: usize,
+    props: &[PropTree],
+    table: &mut SpotTable,
+) -> Result<(), NoMemory>
+    requires { from + length props.now < 2 ^ 63 }
+    ensures { OnOk result (table.new ≡ put_spots table.old (prop_spots class from props.now)) }
+{
+    if let Some((prop, rest)) = props.split_first() {
+        table.put(prop.name.copy(alloc)?, Spot { class, place: from })?;
+        put_props(alloc, class, from + 1, rest, table)?;
+    }
+    Ok(())
+}
+
+fn push_indexes(
+    alloc: Global,
+    class: usize,
+    from: usize,
+    indexes: &[Index],
+    pairs: &mut Items<(Text, Spot)>,
+) -> Result<(), NoMemory>
+    requires { from + length indexes.now < 2 ^ 63 }
+    ensures { OnOk result (pairs.new ≡ pairs.old ++ index_spots class from indexes.now) }
+{
+    if let Some((index, rest)) = indexes.split_first() {
+        pairs.push((index.name.copy(alloc)?, Spot { class, place: from }))?;
+        push_indexes(alloc, class, from + 1, rest, pairs)?;
+    }
+    Ok(())
+}
+
+fn inherit_props(
+    alloc: Global,
+    supers: &[usize],
+    done: &[Members],
+    table: &mut SpotTable,
+) -> Result<(), NoMemory>
+    ensures { OnOk result (table.new ≡ fold (λ spots m. add_spots spots m.props) table.old (filter_map (slice_get done.now) supers.now)) }
+{
+    if let Some((class, rest)) = supers.split_first() {
+        if let Some(members) = done.get(*class) {
+            table.add_all(alloc, &members.props)?;
+        }
+        inherit_props(alloc, rest, done, table)?;
+    }
+    Ok(())
+}
+
+fn inherit_indexes(
+    alloc: Global,
+    supers: &[usize],
+    done: &[Members],
+    table: &mut SpotTable,
+) -> Result<(), NoMemory>
+    ensures { OnOk result (table.new ≡ fold (λ spots m. add_spots spots m.indexes) table.old (filter_map (slice_get done.now) supers.now)) }
+{
+    if let Some((class, rest)) = supers.split_first() {
+        if let Some(members) = done.get(*class) {
+            table.add_pairs(alloc, members.indexes.as_slice())?;
+        }
+        inherit_indexes(alloc, rest, done, table)?;
+    }
+    Ok(())
+}
+
+fn all_props(
+    alloc: Global,
+    trees: &[ClassTree],
+    class: usize,
+    supers: &[usize],
+    done: &[Members],
+) -> Result<SpotTable, NoMemory>
+    ensures { IfOk result (λ table. table ≡ (members_with trees.now class (filter_map (slice_get done.now) supers.now)).props) }
+{
+    let mut table = SpotTable::new(alloc);
+    inherit_props(alloc, supers, done, &mut table)?;
+    put_props(alloc, class, 0, own_props_of(trees, class), &mut table)?;
+    Ok(table)
+}
+
+fn all_indexes(
+    alloc: Global,
+    trees: &[ClassTree],
+    class: usize,
+    supers: &[usize],
+    done: &[Members],
+) -> Result<Items<(Text, Spot)>, NoMemory>
+    ensures { IfOk result (λ pairs. pairs ≡ (members_with trees.now class (filter_map (slice_get done.now) supers.now)).indexes) }
+{
+    let mut table = SpotTable::new(alloc);
+    inherit_indexes(alloc, supers, done, &mut table)?;
+    let mut pairs = table.pairs(alloc)?;
+    push_indexes(alloc, class, 0, own_indexes_of(trees, class), &mut pairs)?;
+    Ok(pairs)
+}
+
+/// The members of a class, from those of its superclasses.
+fn gather_one(
+    alloc: Global,
+    trees: &[ClassTree],
+    class: usize,
+    supers: &[usize],
+    done: &[Members],
+) -> Result<Members, NoMemory>
+    ensures { IfOk result (λ members. members ≡ members_with trees.now class (filter_map (slice_get done.now) supers.now)) }
+{
+    let props = all_props(alloc, trees, class, supers, done)?;
+    let indexes = all_indexes(alloc, trees, class, supers, done)?;
+    Ok(Members { props, indexes })
+}
+
+/// The places of the listed superclasses of a class.
+pub fn supers_at(hierarchy: &Hierarchy, class: usize) -> &[usize]
+    ensures { result.now ≡ row hierarchy.now.links class }
+{
+    match hierarchy.links.get(class) {
+        Some(supers) => supers.as_slice(),
+        None => &[],
+    }
+}
+
+fn gather_at(
+    alloc: Global,
+    trees: &[ClassTree],
+    hierarchy: &Hierarchy,
+    rank: usize,
+    class: usize,
+    done: &mut Items<Members>,
+) -> Result<(), NoMemory>
+    requires class { class < length trees.now }
+    requires hierarchy { IsHierarchyOf (headers_of trees.now) hierarchy.now }
+    requires no_ring { (i : ℕ) → i < length trees.now → ¬ IsInRing (super_links trees.now) i }
+    requires before { AreGatheredTo trees.now hierarchy.now.above rank class done.old }
+    ensures { OnOk result (AreGatheredTo trees.now hierarchy.now.above rank (class + 1) done.new) }
+{
+    if hierarchy.rank(class) == rank {
+        let members = gather_one(
+            alloc,
+            trees,
+            class,
+            supers_at(hierarchy, class),
+            done.as_slice(),
+        )?;
+        done.set(class, members);
+    }
+    Ok(())
+}
+
+fn gather_rank(
+    alloc: Global,
+    trees: &[ClassTree],
+    hierarchy: &Hierarchy,
+    rank: usize,
+    done: &mut Items<Members>,
+) -> Result<(), NoMemory>
+    requires hierarchy { IsHierarchyOf (headers_of trees.now) hierarchy.now }
+    requires no_ring { (i : ℕ) → i < length trees.now → ¬ IsInRing (super_links trees.now) i }
+    requires before { AreGatheredTo trees.now hierarchy.now.above rank 0 done.old }
+    ensures { OnOk result (AreGatheredTo trees.now hierarchy.now.above (rank + 1) 0 done.new) }
+{
+    for class in 0..trees.len() {
+        gather_at(alloc, trees, hierarchy, rank, class, done)?;
+    }
+    Ok(())
+}
+
+fn no_members(alloc: Global, count: usize) -> Result<Items<Members>, NoMemory>
+    ensures { IfOk result (λ done. length done ≡ count) }
+{
+    let mut done = Items::new(alloc);
+    for _ in 0..count {
+        done.push(Members {
+            props: SpotTable::new(alloc),
+            indexes: Items::new(alloc),
+        })?;
+    }
+    Ok(done)
+}
+
+/// The members of all classes, where none is below itself.
+pub fn gather_all(
+    alloc: Global,
+    trees: &[ClassTree],
+    hierarchy: &Hierarchy,
+) -> Result<Items<Members>, NoMemory>
+    requires hierarchy { IsHierarchyOf (headers_of trees.now) hierarchy.now }
+    requires no_ring { (i : ℕ) → i < length trees.now → ¬ IsInRing (super_links trees.now) i }
+    ensures { IfOk result (AreGathered trees.now) }
+{
+    let mut done = no_members(alloc, trees.len())?;
+    for rank in 0..trees.len() + 1 {
+        gather_rank(alloc, trees, hierarchy, rank, &mut done)?;
+    }
+    Ok(done)
+}

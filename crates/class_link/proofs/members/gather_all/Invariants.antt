@@ -1,5 +1,0 @@
-use Rattle.class_link.specs.Gathered.{AreGatheredTo}
-use Rattle.class_link.proofs.members.gather_all.Given as goal
-
-abbrev pub invariant-loop-rank : goal.invariant-loop-rank
-invariant-loop-rank l = AreGatheredTo l.trees l.hierarchy.above l.rank 0 l.done
