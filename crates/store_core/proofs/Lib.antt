@@ -4,3 +4,9 @@ pub mod FrameLaws
 pub mod TurnLaws
 pub mod Rooms
 pub mod HistoryLaws
+pub mod LiveLaws
+pub mod CountLaws
+pub mod QuietLaws
+pub mod OpenLaws
+pub mod StoreLaws
+pub mod LedgerLaws

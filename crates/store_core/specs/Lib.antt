@@ -4,3 +4,8 @@ pub mod Volume
 pub mod History
 pub mod Tied
 pub mod Cleared
+pub mod Live
+pub mod Ledger
+pub mod LedgerCode
+pub mod Stands
+pub mod Texts

@@ -3,16 +3,26 @@
 #![tactic(auto)]
 
 mod act;
+mod copies;
 mod ends;
 mod entry;
+mod history;
 mod laws;
 mod number;
+mod opening;
 mod reads;
 mod refusal;
+mod store;
+mod told;
 mod turns;
 mod volume;
 mod writes;
 
 pub use entry::Entry;
-pub use laws::{cleared_without_levels, steps_keep_histories_legal, turns_leave_others_alone};
+pub use history::History;
+pub use laws::{
+    cleared_without_levels, ended_processes_hold_nothing, processes_end_once,
+    runs_keep_stores_sound, steps_keep_histories_legal, turns_leave_others_alone,
+};
 pub use refusal::ApplyError;
+pub use store::Store;
