@@ -7,3 +7,9 @@ pub mod HistoryLaws
 pub mod GuardHolds
 pub mod GuardTurns
 pub mod GuardLaws
+pub mod LiveLaws
+pub mod CountLaws
+pub mod QuietLaws
+pub mod OpenLaws
+pub mod StoreLaws
+pub mod LedgerLaws

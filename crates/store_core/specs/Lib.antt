@@ -5,3 +5,8 @@ pub mod History
 pub mod Tied
 pub mod Cleared
 pub mod Guard
+pub mod Live
+pub mod Ledger
+pub mod LedgerCode
+pub mod Stands
+pub mod Texts

@@ -1,5 +1,5 @@
 -- How the tree, the locks and the logs stand for a state of the store machine.
-use Rattle.std.specs.Prelude.{◌≡◌, ℕ, ◌+◌, ◌-◌, ◌≤◌, List, [], length, slice_index_or, Option, None, Some}
+use Rattle.std.specs.Prelude.{◌≡◌, ℕ, zero, suc, ◌+◌, ◌-◌, ◌≤◌, List, [], ◌∷◌, ◌++◌, length, slice_index_or, Option, None, Some}
 use Rattle.std.specs.List.{sum_by}
 use Rattle.std.specs.FinMap.{get}
 use Rattle.obj_kinds.specs.declared.node.Node.{Node}
@@ -15,6 +15,11 @@ Logs = List (Option Levels)
 abbrev pub levels_in : Option Levels → Levels
 levels_in None = []
 levels_in (Some ls) = ls
+
+-- of so many processes, all live and without levels
+abbrev pub fresh : ℕ → Logs
+fresh zero = []
+fresh (suc n) = fresh n ++ Some [] ∷ []
 
 -- how many levels keep the node, those of all processes together
 abbrev pub owed : Logs → Node → ℕ

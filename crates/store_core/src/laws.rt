@@ -1,14 +1,18 @@
-ghost use Rattle.std.specs.Prelude.{◌≡◌, ◌+◌, ◌≢◌, ℕ, true, None, List, [], ◌∷◌, ◌++◌};
+ghost use Rattle.std.specs.Prelude.{◌≡◌, ◌+◌, ◌≤◌, ◌≢◌, ℕ, true, false, None, List, [], ◌∷◌, ◌++◌, All};
 ghost use Rattle.obj_kinds.specs.declared.op.Pid.{Pid};
 ghost use Rattle.obj_kinds.specs.declared.op.Op.{Op};
-ghost use Rattle.std.specs.FinMap.{get};
+ghost use Rattle.obj_kinds.specs.declared.op.Op.TheVariants.{End};
+ghost use Rattle.std.specs.FinMap.{get, contains_key};
 ghost use Rattle.obj_kinds.specs.declared.node.Node.{Node};
 ghost use Rattle.global_tree.specs.Contents.{Globals};
+ghost use Rattle.lock_table.specs.declared.hold.Hold.{Hold};
 ghost use Rattle.lock_table.specs.Calls.{IsFree};
 ghost use Rattle.store_core.specs.Cleared.{cleared, outermost};
 ghost use Rattle.store_core.specs.declared.entry.Entry.{Entry};
 ghost use Rattle.store_core.specs.Machine.{State, is_live, levels_at, after, opening};
-ghost use Rattle.store_core.specs.History.{IsLegal, state_after, entry_of};
+ghost use Rattle.store_core.specs.History.{IsLegal, IsLegalWithin, state_after, entry_of};
+ghost use Rattle.store_core.specs.Ledger.{Ledger, state_of, next_entry, end_entry, IsSound, ran, AreAccepted, after_all, entries_of};
+ghost use Rattle.store_core.specs.Live.{ends, live_count};
 ghost use Rattle.store_core.specs.Volume.{entry_volume, volume};
 
 /// A law of histories, for every state that they begin in: with the entry that the machine makes of
@@ -32,4 +36,35 @@ pub fn turns_leave_others_alone()
 pub fn cleared_without_levels()
     ensures same { (s : State) (n : Node) → ((q : ℕ) → outermost (levels_at s q) n ≡ None) → cleared s n ≡ get s.globals n }
     ensures opening { (pids : ℕ) (g : Globals) (n : Node) → cleared (opening pids g) n ≡ get g n }
+{}
+
+/// A law of the end of a process, for every state and process: after it the process isn't live and
+/// has no level, and no hold is its own.
+pub fn ended_processes_hold_nothing()
+    ensures live { (s : State) (p : Pid) → is_live (after s p End) p ≡ false }
+    ensures levels { (s : State) (p : Pid) → levels_at (after s p End) p.0 ≡ [] }
+    ensures holds { (s : State) (p : Pid) (h : Hold) → h.pid.0 ≡ p.0 → contains_key (after s p End).holds h ≡ false }
+{}
+
+/// A law of legal histories: each end makes one process fewer live, only processes of the opening
+/// are live, and one that isn't live has no further entry and is never live again.
+pub fn processes_end_once()
+    ensures counted { (pids : ℕ) (g : Globals) (es : List Entry) → IsLegal (opening pids g) es → ends es + live_count (state_after (opening pids g) es) ≡ pids }
+    ensures numbered { (pids : ℕ) (g : Globals) (es : List Entry) (p : Pid) → IsLegal (opening pids g) es → is_live (state_after (opening pids g) es) p ≡ true → (1 ≤ p.0) × (p.0 ≤ pids) }
+    ensures silent { (s : State) (es : List Entry) (p : Pid) → IsLegal s es → is_live s p ≡ false → All (λ e. e.pid.0 ≢ p.0) es }
+    ensures ended { (s : State) (es : List Entry) (p : Pid) → IsLegal s es → is_live s p ≡ false → is_live (state_after s es) p ≡ false }
+{}
+
+/// A law over all runs of calls, by what [`crate::Store::apply`] and [`crate::Store::apply_end`]
+/// say of one call: after any list of accepted operations the opening, the number of processes and
+/// the volume are as they were, the history has grown by what the machine answers to each of them
+/// in turn, its state is the machine's, and it is legal and within its volume. So was each
+/// beginning of it.
+pub fn runs_keep_stores_sound()
+    ensures opened { (l : Ledger) (asked : List (Pid × Op)) → ((ran l asked).nodes ≡ l.nodes) × (((ran l asked).pids ≡ l.pids) × ((ran l asked).limit ≡ l.limit)) }
+    ensures history { (l : Ledger) (asked : List (Pid × Op)) → (ran l asked).history ≡ l.history ++ entries_of (state_of l) asked }
+    ensures state { (l : Ledger) (asked : List (Pid × Op)) → state_of (ran l asked) ≡ after_all (state_of l) asked }
+    ensures sound { (l : Ledger) (asked : List (Pid × Op)) → IsSound l → AreAccepted l asked → IsSound (ran l asked) }
+    ensures ends { (l : Ledger) (p : Pid) → next_entry l p End ≡ end_entry p }
+    ensures beginnings { (v : ℕ) (s : State) (es fs : List Entry) → IsLegalWithin v s (es ++ fs) → IsLegalWithin v s es }
 {}

@@ -3,13 +3,18 @@
 #![tactic(auto)]
 
 mod act;
+mod copies;
 mod ends;
 mod entry;
 mod guard_laws;
+mod history;
 mod laws;
 mod number;
+mod opening;
 mod reads;
 mod refusal;
+mod store;
+mod told;
 mod turns;
 mod volume;
 mod writes;
@@ -19,5 +24,10 @@ pub use guard_laws::{
     cleared_values_are_of_one_process, cleared_values_move_at_commits, guards_keep_writers_apart,
     histories_respect_guards, locks_to_the_end_stay,
 };
-pub use laws::{cleared_without_levels, steps_keep_histories_legal, turns_leave_others_alone};
+pub use history::History;
+pub use laws::{
+    cleared_without_levels, ended_processes_hold_nothing, processes_end_once,
+    runs_keep_stores_sound, steps_keep_histories_legal, turns_leave_others_alone,
+};
 pub use refusal::ApplyError;
+pub use store::Store;

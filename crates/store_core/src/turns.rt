@@ -32,7 +32,9 @@ pub fn turn(
     requires owed { IsOwed tree.old.pins logs.old.items }
     requires counts { (h : Hold) → (kept locks.old h).counted < 2 ^ 64 - 1 }
     ensures owed { IsOwed tree.new.pins logs.new.items }
-    ensures reply { (s : State) → IsTied s tree.old.globals locks.old logs.old.items → IfOk result (λ r. (r ≡ told s pid op.now) × (reply_volume r ≤ room)) }
+    ensures pids { vec_len logs.new ≡ vec_len logs.old }
+    ensures reply { (s : State) → IsTied s tree.old.globals locks.old logs.old.items → IfOk result (λ r. r ≡ told s pid op.now) }
+    ensures fits { IfOk result (λ r. reply_volume r ≤ room) }
     ensures after { (s : State) → IsTied s tree.old.globals locks.old logs.old.items → OnOk result (IsTied (after s pid op.now) tree.new.globals locks.new logs.new.items) }
     ensures err { OnErr result ((tree.new.globals ≡ tree.old.globals) × (locks.new ≡ locks.old) × (logs.new.items ≡ logs.old.items)) }
     ensures volume { (s : State) → IsTied s tree.old.globals locks.old logs.old.items → result ≡ Err Volume → room < reply_volume (told s pid op.now) }
@@ -50,6 +52,7 @@ pub fn end_turn(tree: &mut Tree, locks: &mut Locks, logs: &mut Vec<Option<Log>>,
     requires live { slice_index_or logs.old.items (pid.0 - 1) None ≢ None }
     requires owed { IsOwed tree.old.pins logs.old.items }
     ensures owed { IsOwed tree.new.pins logs.new.items }
+    ensures pids { vec_len logs.new ≡ vec_len logs.old }
     ensures after { (s : State) → IsTied s tree.old.globals locks.old logs.old.items → IsTied (after s pid End) tree.new.globals locks.new logs.new.items }
 {
     match logs[pid.0 as usize - 1].take() {

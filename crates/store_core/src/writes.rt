@@ -106,6 +106,19 @@ pub fn kill(alloc: Global, tree: &mut Tree, log: &mut Log, node: &Node) -> Resul
     }
 }
 
+/// Gives a node a value that no level keeps. At a want of memory nothing changes.
+pub fn put(alloc: Global, tree: &mut Tree, node: &Node, value: Value) -> Result<(), NoMemory>
+    requires room { pins_of tree.old.pins node.now + 1 < 2 ^ 64 }
+    ensures globals { OnOk result (tree.new.globals ≡ insert tree.old.globals node.now value) }
+    ensures pins { (n : Node) → pins_of tree.new.pins n ≡ pins_of tree.old.pins n }
+    ensures err { OnErr result (tree.new ≡ tree.old) }
+{
+    let key = node.copy(alloc)?;
+    tree.set(key, value)?;
+    tree.unpin(node);
+    Ok(())
+}
+
 /// Stores a number, which no level keeps. At a want of memory nothing changes.
 pub fn store_number(
     alloc: Global,
@@ -118,9 +131,6 @@ pub fn store_number(
     ensures pins { (n : Node) → pins_of tree.new.pins n ≡ pins_of tree.old.pins n }
     ensures err { OnErr result (tree.new ≡ tree.old) }
 {
-    let key = node.copy(alloc)?;
     let value = number_value(alloc, number)?;
-    tree.set(key, value)?;
-    tree.unpin(node);
-    Ok(())
+    put(alloc, tree, node, value)
 }

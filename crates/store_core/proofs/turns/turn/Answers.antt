@@ -30,7 +30,10 @@ returns-clause-reply c = λ s is.
     let e : c.args.pid.0 ≡ i + 1 = omega (arith, c.requires.pid.0) in
     let here = own_log logs i c.index_mut.result.now ls lt c.index_mut.ensures.value c.in-Some.is in
     let told = told_is s c.args.pid c.args.op.now c.args.tree.now.globals c.args.locks.now logs i ls is e here in
-    if_ok c.act.result c.act.ensures.reply (λ r h. (h.0 ∙ sym told, h.1))
+    if_ok c.act.result c.act.ensures.reply (λ r h. h.0 ∙ sym told)
+
+pub returns-clause-fits : goal.returns-clause-fits
+returns-clause-fits c = if_ok c.act.result c.act.ensures.reply (λ r h. h.1)
 
 pub returns-clause-after : goal.returns-clause-after
 returns-clause-after c = λ s is.

@@ -1,7 +1,7 @@
 use Rattle.std.proofs.Common.{ap, ◌∙◌, arith}
 use Rattle.global_tree.specs.Contents.{pins_of, pinned, unpinned}
 use Rattle.store_core.proofs.Restored.{pins_again, pinned_here}
-use Rattle.store_core.proofs.writes.store_number.Goals as goal
+use Rattle.store_core.proofs.writes.put.Goals as goal
 
 pub unpin-requires : goal.unpin-requires
 unpin-requires c =
