@@ -1,3 +1,1 @@
-pub mod TextClassSteps
-pub mod TextClassLaws
-pub mod TextClassForms
+pub mod OneClass

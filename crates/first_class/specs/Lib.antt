@@ -1,4 +1,2 @@
-pub mod Words
 pub mod Names
-pub mod TextClassForm
-pub mod TextClassReading
+pub mod TextClasses

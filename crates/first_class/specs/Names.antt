@@ -1,31 +1,17 @@
--- Names, and names of classes.
-use Rattle.std.specs.Prelude.{ℕ, Bool, true, false, cond, ◌&&◌, ◌==◌, nat_le, List, [], ◌∷◌, length, Option, Some, None}
-use Rattle.std.specs.Option.{option_map_or}
-use Rattle.std.specs.List.{list_all, list_any}
-use Rattle.first_class.specs.Words.{is_letter, is_alphanumeric}
-use Rattle.first_class.specs.declared.names.Place.{Place}
-use Rattle.first_class.specs.declared.names.Place.TheVariants.{Word, Letter, Inside}
+-- Names of variables and properties.
+use Rattle.std.specs.Prelude.{ℕ, Bool, false, ◌&&◌, ◌||◌, nat_le, List, [], ◌∷◌, length}
+use Rattle.std.specs.List.{list_all}
+
+abbrev pub is_letter : ℕ → Bool
+is_letter byte = (nat_le 65 byte && nat_le byte 90) || (nat_le 97 byte && nat_le byte 122)
+
+abbrev pub is_digit : ℕ → Bool
+is_digit byte = nat_le 48 byte && nat_le byte 57
+
+abbrev pub is_alphanumeric : ℕ → Bool
+is_alphanumeric byte = is_letter byte || is_digit byte
 
 -- a letter, and then letters and digits, 31 at most
 abbrev pub is_name : List ℕ → Bool
 is_name [] = false
 is_name (first ∷ others) = is_letter first && list_all is_alphanumeric others && nat_le (length others) 30
-
--- where reading stands behind this byte of words that are joined by dots; a word may begin with `%`
-abbrev pub next_place : Place → ℕ → Option Place
-next_place Word byte = cond (byte == 37) (Some Letter) (cond (is_letter byte) (Some Inside) None)
-next_place Letter byte = cond (is_letter byte) (Some Inside) None
-next_place Inside byte = cond (byte == 46) (Some Word) (cond (is_alphanumeric byte) (Some Inside) None)
-
-abbrev pub is_inside : Place → Bool
-is_inside Word = false
-is_inside Letter = false
-is_inside Inside = true
-
-abbrev pub are_words : Place → List ℕ → Bool
-are_words place [] = is_inside place
-are_words place (byte ∷ rest) = option_map_or (λ next. are_words next rest) (next_place place byte) false
-
--- a package and a name, or more words, joined by dots, 60 bytes at most
-abbrev pub is_class_name : List ℕ → Bool
-is_class_name text = are_words Word text && list_any (λ byte. byte == 46) text && nat_le (length text) 60

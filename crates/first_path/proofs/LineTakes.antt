@@ -2,8 +2,7 @@
 use Rattle.std.proofs.Common.{◌≡◌, ℕ, Bool, true, false, ◌&&◌, List, [], ◌∷◌, ◌++◌, Option, Some, None, codes, refl, sym, ap, subst, ◌∙◌, append_assoc}
 use Rattle.std.specs.Option.{option_map, option_and_then}
 use Rattle.std.specs.List.{list_all}
-use Rattle.first_class.specs.Words.{is_alphanumeric}
-use Rattle.first_class.specs.Names.{is_name}
+use Rattle.first_class.specs.Names.{is_alphanumeric, is_name}
 use Rattle.first_path.specs.Pieces.{after, piece, name_in, text_in, is_text_byte, is_short}
 use Rattle.first_path.specs.Lines.{Line, New, Fill, Save, line_text, is_formed}
 use Rattle.first_path.specs.LineReading.{new_end, set_in, new_in, value_in, fill_in, save_in, first_of, line_in}

@@ -1,7 +1,6 @@
 -- Pieces of a line: literals, names and texts.
 use Rattle.std.specs.Prelude.{ℕ, zero, suc, Bool, true, false, cond, ◌&&◌, ◌==◌, not, nat_le, List, [], ◌∷◌, length, take, drop, Option, Some, None}
-use Rattle.first_class.specs.Words.{is_alphanumeric}
-use Rattle.first_class.specs.Names.{is_name}
+use Rattle.first_class.specs.Names.{is_alphanumeric, is_name}
 
 -- what follows the literal
 abbrev pub after : List ℕ → List ℕ → Option (List ℕ)

@@ -1,6 +1,6 @@
 ghost use Rattle.std.specs.Prelude.{◌≡◌, ◌≤◌, length};
 ghost use Rattle.std.specs.Option.{option_copied, option_map};
-ghost use Rattle.first_class.specs.Words.{is_alphanumeric};
+ghost use Rattle.first_class.specs.Names.{is_alphanumeric};
 ghost use Rattle.first_path.specs.Pieces.{after as after_literal, span, is_text_byte as text_byte_test, is_short, name_in, text_in};
 
 use first_class::{is_alphanumeric_byte, is_name};

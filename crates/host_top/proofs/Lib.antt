@@ -1,3 +1,3 @@
 pub mod WordLaws
-pub mod Forms
+pub mod JobLaws
 pub mod VerdictLaws

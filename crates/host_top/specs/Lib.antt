@@ -1,6 +1,7 @@
 pub mod Words
 pub mod WordReading
 pub mod Texts
+pub mod Whys
 pub mod Refusals
 pub mod Report
 pub mod Run

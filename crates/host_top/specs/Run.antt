@@ -10,7 +10,7 @@ use Rattle.first_path.specs.declared.act.Act.{Act}
 use Rattle.first_path.specs.declared.act.Act.TheVariants.{Save}
 use Rattle.first_path.specs.declared.playing.Ending.{Ending}
 use Rattle.first_path.specs.declared.playing.Ending.TheVariants.{Done, DeviceFault}
-use Rattle.host_top.specs.Texts.{Input, AreRead, InForm}
+use Rattle.host_top.specs.Texts.{Input, AreRead, IsUnderstood}
 use Rattle.host_top.specs.Report.{report_of}
 
 -- the files of the words were read, and are this class and a script for it that does this
@@ -18,7 +18,7 @@ pub record HasInput (words : List (List ℕ)) (contents : List ℕ → Option (L
   pub input : Input
   pub read : AreRead words contents asked asked' input
   pub lines : List Line
-  pub form : InForm input.class_text input.script_text class lines acts
+  pub form : IsUnderstood input.class_text input.script_text class lines acts
 
 -- all lines were done: the device has one `1` and line feed for each line that saves, and the report tells of the world after them
 pub record IsDone (class : TextClass) (acts : List Act) (device device' sink sink' : Option (List ℕ)) : Type 0 where

@@ -1,8 +1,14 @@
 -- The texts of a run, as its files tell them.
-use Rattle.std.specs.Prelude.{◌≡◌, ℕ, ◌<◌, ◌≤◌, ◌⊎◌, List, [], ◌∷◌, ◌++◌, length, Option, Some}
+use Rattle.std.specs.Prelude.{◌≡◌, ℕ, ◌<◌, ◌≤◌, ◌⊎◌, List, [], ◌∷◌, ◌++◌, length, Option, Some, Ok, Err}
 use Rattle.std.specs.Option.{IfSome}
+use Rattle.schema_kinds.specs.declared.tree.ClassTree.{ClassTree}
+use Rattle.class_tokens.specs.declared.error.ClassWhy.{ClassWhy}
+use Rattle.class_reader.specs.ClassReading.{reading}
+use Rattle.class_link.specs.declared.error.LinkWhy.{LinkWhy}
+use Rattle.class_link.specs.Refusal.{Has}
+use Rattle.text_reading.specs.declared.stop.Refusal.{Refusal}
 use Rattle.first_class.specs.declared.form.TextClass.{TextClass}
-use Rattle.first_class.specs.TextClassForm.{IsTextClass}
+use Rattle.first_class.specs.TextClasses.{IsTextClass}
 use Rattle.first_path.specs.Lines.{Line}
 use Rattle.first_path.specs.Script.{IsScript}
 use Rattle.first_path.specs.declared.act.Act.{Act}
@@ -39,11 +45,30 @@ pub record AreRead (words : List (List ℕ)) (contents : List ℕ → Option (Li
   pub script_short : length input.script_text ≤ max_file_len
   pub asks : AsksAll asked asked' (input.names.class ∷ input.names.script ∷ [])
 
+-- the class file says these classes
+abbrev pub Declares : List ℕ → List ClassTree → Type 0
+Declares class_text trees = reading class_text ≡ Ok trees
+
+-- the class file isn't in its grammar: this is the first refusal
+abbrev pub IsMisspelt : List ℕ → Refusal ClassWhy → Type 0
+IsMisspelt class_text r = reading class_text ≡ Err r
+
+-- no class has a reason against linking it
+abbrev pub CanLink : List ClassTree → Type 0
+CanLink trees = (i : ℕ) (why : LinkWhy) → i < length trees → Has trees i why → ⊥
+
 -- the texts are those of a class of text properties and of a script for it
-pub record InForm (class_text script_text : List ℕ) (class : TextClass) (lines : List Line) (acts : List Act) : Type 0 where
-  pub class_form : IsTextClass class_text class
+pub record InForm (trees : List ClassTree) (script_text : List ℕ) (class : TextClass) (lines : List Line) (acts : List Act) : Type 0 where
+  pub class_form : IsTextClass trees class
   pub script_form : IsScript class.name.0 class.props script_text lines acts
 
--- no class, lines and acts make the texts such
-abbrev pub NotInForm : List ℕ → List ℕ → Type 0
-NotInForm class_text script_text = (class : TextClass) (lines : List Line) (acts : List Act) → InForm class_text script_text class lines acts → ⊥
+-- no class, lines and acts make them such
+abbrev pub NotInForm : List ClassTree → List ℕ → Type 0
+NotInForm trees script_text = (class : TextClass) (lines : List Line) (acts : List Act) → InForm trees script_text class lines acts → ⊥
+
+-- the class file says classes that link, and with the script they are in the form
+pub record IsUnderstood (class_text script_text : List ℕ) (class : TextClass) (lines : List Line) (acts : List Act) : Type 0 where
+  pub trees : List ClassTree
+  pub said : Declares class_text trees
+  pub links : CanLink trees
+  pub form : InForm trees script_text class lines acts

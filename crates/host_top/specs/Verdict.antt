@@ -3,9 +3,6 @@ use Rattle.std.specs.Prelude.{◌≡◌, ℕ, ◌<◌, ◌≤◌, ◌⊎◌, Lis
 use Rattle.obj_edges.specs.Told.{Rises, Adds}
 use Rattle.first_class.specs.declared.form.TextClass.{TextClass}
 use Rattle.first_path.specs.declared.act.Act.{Act}
-use Rattle.first_path.specs.Lines.{Line}
-use Rattle.host_top.specs.Words.{AreRunWords, AreNoRunWords}
-use Rattle.host_top.specs.Texts.{Input, InForm, NotInForm, max_file_len}
 use Rattle.host_top.specs.Refusals.{IsRefused, message_of, status_of}
 use Rattle.host_top.specs.Run.{HasInput, IsDone, IsStopped}
 use Rattle.host_top.specs.declared.refusal.Refusal.{Refusal}

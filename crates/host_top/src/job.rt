@@ -1,16 +1,18 @@
-ghost use Rattle.std.specs.Prelude.{◌≡◌, ◌≤◌, ◌<◌, ◌^◌, List, [], IfOk, length};
+ghost use Rattle.std.specs.Prelude.{◌≡◌, ◌+◌, ◌≤◌, ◌<◌, ◌^◌, List, [], IfOk, IfErr, OnOk, length, vec_len};
+ghost use Rattle.first_class.specs.TextClasses.{IsTextClass};
 ghost use Rattle.first_path.specs.World.{AreKnown};
 ghost use Rattle.first_path.specs.Lines.{Line};
-ghost use Rattle.host_top.specs.Texts.{InForm, NotInForm};
-ghost use Rattle.host_top.specs.Report.{report_of, ending_line as line_of};
-ghost use Rattle.host_top.specs.Run.{HasRun};
+ghost use Rattle.first_path.specs.Script.{IsScript};
+ghost use Rattle.host_top.specs.Texts.{Declares, CanLink, IsUnderstood, max_file_len};
+ghost use Rattle.host_top.specs.Refusals.{IsTextRefused, IsFormRefused, AreRefused, IsScriptRefused, IsJobRefused};
 
+use crate::refusal::Refusal;
 use crate::texts::Texts;
-use first_class::{FormError, TextClass, read_text_class};
-use first_path::{Act, Ending, Fields, MAX_LINES, image, play, read_script};
-use global_dump::dump;
-use obj_edges::Device;
-use obj_kinds::{ClassName, NoMemory, Text};
+use class_link::{LinkError, link};
+use class_reader::{ReadError, read_classes};
+use first_class::{FormError, TextClass, text_class_of};
+use first_path::{Act, MAX_LINES, read_script};
+use schema_kinds::{ClassTree, ClassTrees};
 use sqlite_items::Items;
 use std::alloc::Global;
 
@@ -21,68 +23,87 @@ pub(crate) struct Job {
     pub acts: Items<Act>,
 }
 
-/// The class and the acts that the texts have the forms of.
-pub(crate) fn understand(alloc: Global, texts: &Texts) -> Result<Job, FormError>
-    ensures found { IfOk result (λ job. (lines : List Line) × InForm texts.now.class.items texts.now.script.items job.class lines job.acts) }
-    ensures few { IfOk result (λ job. length job.acts ≤ MAX_LINES) }
-    ensures known { IfOk result (λ job. AreKnown (length job.class.props) [] job.acts) }
-    ensures refused { result ≡ Err FormError.NotInForm → NotInForm texts.now.class.items texts.now.script.items }
+// The classes that the class file of this name says.
+fn declared_classes<'a>(
+    alloc: Global,
+    name: &'a str,
+    text: &[u8],
+) -> Result<ClassTrees, Refusal<'a>>
+    requires { length text.now + 1 < 2 ^ 32 }
+    ensures said { IfOk result (Declares text.now) }
+    ensures refused { IfErr result (IsTextRefused name.now text.now) }
 {
-    let class = read_text_class(alloc, texts.class.as_slice())?;
-    let acts = read_script(alloc, &class, texts.script.as_slice())?;
-    Ok(Job { class, acts })
-}
-
-fn ending_line(ending: Ending) -> &'static [u8]
-    ensures { result.now ≡ line_of ending }
-{
-    match ending {
-        Ending::Done => b"1 Done\n",
-        Ending::DeviceFault => b"1 DeviceFault\n",
+    match read_classes(alloc, text) {
+        Ok(trees) => Ok(trees),
+        Err(ReadError::BadClass { line, column, why }) => Err(Refusal::BadClass {
+            name,
+            line,
+            column,
+            why,
+        }),
+        Err(ReadError::NoMemory) => Err(Refusal::Memory),
     }
 }
 
-// The report of a run that ended so.
-#[tactic(auto, unfolding(crate::specs::Report::report_of))]
-fn report_text(
-    alloc: Global,
-    ending: Ending,
-    class: &ClassName,
-    saved: &[Fields],
-) -> Result<Text, NoMemory>
-    requires { length saved.now < 2 ^ 32 }
-    ensures { IfOk result (λ text. text ≡ report_of ending class.now.0 saved.now) }
+// Whether the classes link.
+fn check_links(alloc: Global, trees: ClassTrees) -> Result<(), Refusal<'static>>
+    ensures links { OnOk result (CanLink trees) }
+    ensures refused { IfErr result (AreRefused trees) }
 {
-    let nodes = image(alloc, class, saved)?;
-    let lines = dump(alloc, nodes.as_slice())?;
-    let mut text = Text::from_slice(alloc, ending_line(ending))?;
-    text.push_slice(lines.as_slice())?;
-    Ok(text)
+    match link(alloc, trees) {
+        Ok(_) => Ok(()),
+        Err(LinkError::BadLink { class, why }) => Err(Refusal::BadLink { class, why }),
+        Err(LinkError::NoMemory) => Err(Refusal::Memory),
+    }
 }
 
-/// The report of a run, and how its process ended.
-#[derive(Debug, Drop)]
-pub(crate) struct Report {
-    pub text: Text,
-    pub ending: Ending,
+// The one class of text properties that the classes are, whether they link or not.
+fn class_of(alloc: Global, trees: &[ClassTree]) -> Result<TextClass, Refusal<'static>>
+    ensures class { IfOk result (IsTextClass trees.now) }
+    ensures refused { IfErr result (IsFormRefused trees.now) }
+{
+    match text_class_of(alloc, trees) {
+        Ok(class) => Ok(class),
+        Err(FormError::NotInForm) => Err(Refusal::BadForm),
+        Err(FormError::NoMemory) => Err(Refusal::Memory),
+    }
 }
 
-/// Runs the process, which prints to the device.
-pub(crate) fn run<D: Device>(alloc: Global, job: &Job, device: &mut D) -> Result<Report, NoMemory>
-    requires few { length job.now.acts ≤ MAX_LINES }
-    requires known { AreKnown (length job.now.class.props) [] job.now.acts }
-    ensures { IfOk result (λ report. HasRun job.now.class job.now.acts (D.bytes device.old) (D.bytes device.new) (D.faults device.old) (D.faults device.new) report.text report.ending) }
+// The one class of text properties that the classes are. That they don't link comes first.
+fn only_class(alloc: Global, trees: ClassTrees) -> Result<TextClass, Refusal<'static>>
+    ensures links { OnOk result (CanLink trees) }
+    ensures class { IfOk result (IsTextClass trees) }
+    ensures refused { IfErr result (AreRefused trees) }
 {
-    let properties = job.class.props.len();
-    let played = play(alloc, properties, job.acts.as_slice(), device)?;
-    let text = report_text(
-        alloc,
-        played.ending,
-        &job.class.name,
-        played.saved.as_slice(),
-    )?;
-    Ok(Report {
-        text,
-        ending: played.ending,
-    })
+    let class = class_of(alloc, trees.as_slice());
+    check_links(alloc, trees)?;
+    class
+}
+
+// What the script does with objects of the class.
+fn acts_of(alloc: Global, class: &TextClass, text: &[u8]) -> Result<Items<Act>, Refusal<'static>>
+    ensures found { IfOk result (λ acts. (lines : List Line) × IsScript class.now.name.0 class.now.props text.now lines acts) }
+    ensures few { IfOk result (λ acts. length acts ≤ MAX_LINES) }
+    ensures known { IfOk result (λ acts. AreKnown (length class.now.props) [] acts) }
+    ensures refused { IfErr result (IsScriptRefused class.now text.now) }
+{
+    match read_script(alloc, class, text) {
+        Ok(acts) => Ok(acts),
+        Err(FormError::NotInForm) => Err(Refusal::BadForm),
+        Err(FormError::NoMemory) => Err(Refusal::Memory),
+    }
+}
+
+/// The class and the acts that the texts have the forms of.
+pub(crate) fn understand<'a>(alloc: Global, texts: &Texts<'a>) -> Result<Job, Refusal<'a>>
+    requires { vec_len texts.now.class ≤ max_file_len }
+    ensures found { IfOk result (λ job. (lines : List Line) × IsUnderstood texts.now.class.items texts.now.script.items job.class lines job.acts) }
+    ensures few { IfOk result (λ job. length job.acts ≤ MAX_LINES) }
+    ensures known { IfOk result (λ job. AreKnown (length job.class.props) [] job.acts) }
+    ensures refused { IfErr result (IsJobRefused texts.now.names.class.now texts.now.class.items texts.now.script.items) }
+{
+    let trees = declared_classes(alloc, texts.names.class, texts.class.as_slice())?;
+    let class = only_class(alloc, trees)?;
+    let acts = acts_of(alloc, &class, texts.script.as_slice())?;
+    Ok(Job { class, acts })
 }

@@ -3,9 +3,11 @@
 
 mod job;
 mod refusal;
+mod run;
 mod texts;
 mod top;
 mod verdict;
+mod whys;
 mod words;
 
 pub use obj_edges::{Device, FileError, Files, MemDevice, MemFiles, MemSink, Put, Sink};

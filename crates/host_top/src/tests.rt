@@ -62,16 +62,17 @@ fn devices(alloc: Global, count: usize, failing: u64) -> Result<Vec<MemDevice>, 
     Ok(devices)
 }
 
-fn run_words(
+fn run_files(
     alloc: Global,
     texts: &[&str],
+    class_name: &str,
     class: &str,
     script: &[u8],
     faults: Faults,
 ) -> Result<Seen, NoMemory> {
     let words = words(alloc, texts)?;
     let mut files = MemFiles::new(alloc, one(alloc, faults.read)?);
-    files.add(alloc, "item.cls", class.as_bytes())?;
+    files.add(alloc, class_name, class.as_bytes())?;
     files.add(alloc, "first.os", script)?;
     let mut sink = MemSink::new(alloc, ROOM, one(alloc, faults.sink)?)?;
     let Some(count) = words.len().checked_add(4) else {
@@ -84,6 +85,16 @@ fn run_words(
         sink,
         files,
     })
+}
+
+fn run_words(
+    alloc: Global,
+    texts: &[&str],
+    class: &str,
+    script: &[u8],
+    faults: Faults,
+) -> Result<Seen, NoMemory> {
+    run_files(alloc, texts, "item.cls", class, script, faults)
 }
 
 fn run(alloc: Global, class: &str, script: &str, faults: Faults) -> Result<Seen, NoMemory> {
@@ -188,7 +199,7 @@ fn wide_class(alloc: Global, count: usize) -> Result<String, NoMemory> {
 #[test]
 fn a_class_has_200_properties_at_most(rt: HostRuntime) -> Result<(), Fail> {
     let script = "Set a=##class(Shop.Wide).%New()\nSet a.P199=\"x\"\nWrite a.%Save(),!\n";
-    for (count, status) in [(199, 8), (200, 0), (201, 8)] {
+    for (count, status) in [(199, 8), (200, 0), (201, 2)] {
         let class = wide_class(rt.alloc(), count).expect(&rt, "memory");
         let seen = run(rt.alloc(), class.as_str(), script, NONE).expect(&rt, "memory");
         assert_eq!(rt; seen.outcome.status, status, "at {count}");
@@ -290,7 +301,7 @@ fn other_words_are_refused(rt: HostRuntime) -> Result<(), Fail> {
 }
 
 #[test]
-fn texts_that_miss_the_forms_are_not_built(rt: HostRuntime) -> Result<(), Fail> {
+fn scripts_that_miss_the_form_are_not_built(rt: HostRuntime) -> Result<(), Fail> {
     let scripts = [
         "Set a=##class(Shop.Item).%New()",
         "Set  a=##class(Shop.Item).%New()\n",
@@ -316,27 +327,232 @@ fn texts_that_miss_the_forms_are_not_built(rt: HostRuntime) -> Result<(), Fail> 
         let seen = run(rt.alloc(), CLASS, script, NONE).expect(&rt, "memory");
         expect(&rt, &seen, 8, "", "not built\n", script);
     }
-    let classes = [
-        "Class Item Extends %Persistent { }",
-        "Class Shop.Item Extends %Persistent {",
-        "Class Shop.Item Extends %Persistent { } }",
-        "Class Shop.Item Extends %SerialObject { }",
-        "Class Shop.Item Extends %persistent { }",
-        "Class Shop. Item Extends %Persistent { }",
-        "Class Shop.Item { }",
-        "Class Shop.Item Extends %Persistent { Property Name As %String }",
-        "Class Shop.Item Extends %Persistent { Property Name As %Integer; }",
-        "Class Shop.Item Extends %Persistent { Property Name; }",
-        "Class Shop.Item Extends %Persistent { Property 1 As %String; }",
-        "Class Shop.Item Extends %Persistent { Property A As %String; Property A As %String; }",
-        "// a comment\nClass Shop.Item Extends %Persistent { }",
-        "Class Shop.Item Extends %Persistent { } Class Shop.Other Extends %Persistent { }",
-        "",
-    ];
-    for class in &classes {
-        let seen = run(rt.alloc(), class, "", NONE).expect(&rt, "memory");
-        expect(&rt, &seen, 8, "", "not built\n", class);
+    Ok(())
+}
+
+/// A class file, with the status that it has beside an empty script, and what is put into the sink.
+#[derive(Clone, Copy)]
+struct ClassCase {
+    class: &'static str,
+    status: u8,
+    report: &'static str,
+}
+
+const CLASS_CASES: [ClassCase; 36] = [
+    ClassCase {
+        class: "Class Item Extends %Persistent { }",
+        status: 2,
+        report: "item.cls:1:7: NoPackage\n",
+    },
+    ClassCase {
+        class: "Class Shop.Item Extends %Persistent {",
+        status: 2,
+        report: "item.cls:1:38: UnexpectedEnd\n",
+    },
+    ClassCase {
+        class: "Class Shop.Item Extends %Persistent { } }",
+        status: 2,
+        report: "item.cls:1:41: UnexpectedToken\n",
+    },
+    ClassCase {
+        class: "Class Shop. Item Extends %Persistent { }",
+        status: 2,
+        report: "item.cls:1:13: UnexpectedToken\n",
+    },
+    ClassCase {
+        class: "Class Shop.Item Extends %Persistent { Property Name As %String }",
+        status: 2,
+        report: "item.cls:1:64: UnexpectedToken\n",
+    },
+    ClassCase {
+        class: "Class Shop.Item Extends %Persistent { Property 1 As %String; }",
+        status: 2,
+        report: "item.cls:1:48: UnexpectedToken\n",
+    },
+    ClassCase {
+        class: "Class Shop.Item Extends %Persistent { Property A As %String; Property A As %String; }",
+        status: 2,
+        report: "item.cls:1:71: RepeatedMember\n",
+    },
+    ClassCase {
+        class: "Class Shop.Item Extends %Persistent {\nProperty A As %String(PATTERN = 1); }",
+        status: 2,
+        report: "item.cls:2:23: LeftOut\n",
+    },
+    ClassCase {
+        class: "Class Shop.Item Extends %Persistent { Property Name [ Transient ]; }",
+        status: 2,
+        report: "item.cls:1:55: LeftOut\n",
+    },
+    ClassCase {
+        class: "Class Shop.Item Extends %Persistent { Property Nam",
+        status: 2,
+        report: "item.cls:1:51: UnexpectedEnd\n",
+    },
+    ClassCase {
+        class: "Class Shop.Item Extends %persistent { }",
+        status: 2,
+        report: "class Shop.Item: UnknownSuper\n",
+    },
+    ClassCase {
+        class: "Class Shop.Item Extends Shop.Thing { }",
+        status: 2,
+        report: "class Shop.Item: UnknownSuper\n",
+    },
+    ClassCase {
+        class: "Class Shop.Item Extends %Persistent { Property A As Shop.Thing; }",
+        status: 2,
+        report: "class Shop.Item: UnknownType\n",
+    },
+    ClassCase {
+        class: "Class Shop.Item Extends %Persistent { Property A As %String(MAXLEN = 0); }",
+        status: 2,
+        report: "class Shop.Item: BadParameter\n",
+    },
+    ClassCase {
+        class: "Class Shop.Item Extends %Persistent { } Class Shop.Item Extends %Persistent { }",
+        status: 2,
+        report: "class Shop.Item: RepeatedClass\n",
+    },
+    ClassCase {
+        class: "Class Shop.Item Extends %Persistent { Index A On B; }",
+        status: 2,
+        report: "class Shop.Item: UnknownIndexProperty\n",
+    },
+    ClassCase {
+        class: "",
+        status: 8,
+        report: "not built\n",
+    },
+    ClassCase {
+        class: "// no class\n",
+        status: 8,
+        report: "not built\n",
+    },
+    ClassCase {
+        class: "Class Shop.Item Extends %SerialObject { }",
+        status: 8,
+        report: "not built\n",
+    },
+    ClassCase {
+        class: "Class Shop.Item { }",
+        status: 8,
+        report: "not built\n",
+    },
+    ClassCase {
+        class: "Class Shop.Item Extends %Persistent { } Class Shop.Other Extends %Persistent { }",
+        status: 8,
+        report: "not built\n",
+    },
+    ClassCase {
+        class: "Class Shop.Item Extends (%Persistent, %Populate) { }",
+        status: 8,
+        report: "not built\n",
+    },
+    ClassCase {
+        class: "Class Shop.Item Extends %Persistent { Property Name As %Integer; }",
+        status: 8,
+        report: "not built\n",
+    },
+    ClassCase {
+        class: "Class Shop.Item Extends %Persistent { Property Name As list Of %String; }",
+        status: 8,
+        report: "not built\n",
+    },
+    ClassCase {
+        class: "Class Shop.Item Extends %Persistent { Property Name As Shop.Item; }",
+        status: 8,
+        report: "not built\n",
+    },
+    ClassCase {
+        class: "Class Shop.Item Extends %Persistent { Property Name As %String(MAXLEN = 50); }",
+        status: 8,
+        report: "not built\n",
+    },
+    ClassCase {
+        class: "Class Shop.Item Extends %Persistent { Property Name As %String [ Required ]; }",
+        status: 8,
+        report: "not built\n",
+    },
+    ClassCase {
+        class: "Class Shop.Item Extends %Persistent { Property Name As %String [ InitialExpression = 7 ]; }",
+        status: 8,
+        report: "not built\n",
+    },
+    ClassCase {
+        class: "Class Shop.Item Extends %Persistent { Property Name; Index Names On Name; }",
+        status: 8,
+        report: "not built\n",
+    },
+    ClassCase {
+        class: "Class Shop.Item Extends %Persistent { Method M() { } }",
+        status: 8,
+        report: "not built\n",
+    },
+    ClassCase {
+        class: "// a comment\nClass Shop.Item Extends %Persistent { }",
+        status: 0,
+        report: "1 Done\n",
+    },
+    ClassCase {
+        class: "Class Shop.Item Extends %Persistent { Property Name; }",
+        status: 0,
+        report: "1 Done\n",
+    },
+    ClassCase {
+        class: "Class Shop.Item Extends %Persistent { Property Name As %Library.String [ SqlFieldName = FullName, Not Required ]; }",
+        status: 0,
+        report: "1 Done\n",
+    },
+    ClassCase {
+        class: "Class Shop.Item Extends %Persistent { Property Name As %String(DISPLAYLIST = \",a\"); }",
+        status: 0,
+        report: "1 Done\n",
+    },
+    ClassCase {
+        class: "Class Shop.Item Extends %Persistent [ ClassType = persistent, ProcedureBlock ] { Parameter P = 1; Storage Default { <Data name=\"x\"> } }",
+        status: 0,
+        report: "1 Done\n",
+    },
+    ClassCase {
+        class: "Class Shop.Item Extends (%Library.Persistent) { }",
+        status: 0,
+        report: "1 Done\n",
+    },
+];
+
+#[test]
+fn class_files_have_their_statuses(rt: HostRuntime) -> Result<(), Fail> {
+    for case in &CLASS_CASES {
+        let seen = run(rt.alloc(), case.class, "", NONE).expect(&rt, "memory");
+        expect(&rt, &seen, case.status, "", case.report, case.class);
     }
+    Ok(())
+}
+
+#[test]
+fn messages_name_the_class_file(rt: HostRuntime) -> Result<(), Fail> {
+    let names = ["run", "acc.cls", "first.os"];
+    let class = "Class Bank.Account Extends %Persistent\n{\nProperty Own";
+    let seen = run_files(rt.alloc(), &names, "acc.cls", class, b"", NONE).expect(&rt, "memory");
+    expect(
+        &rt,
+        &seen,
+        2,
+        "",
+        "acc.cls:3:13: UnexpectedEnd\n",
+        "a class file that is cut",
+    );
+    let class = "Class A.B Extends A.C { }";
+    let seen = run_files(rt.alloc(), &names, "acc.cls", class, b"", NONE).expect(&rt, "memory");
+    expect(
+        &rt,
+        &seen,
+        2,
+        "",
+        "class A.B: UnknownSuper\n",
+        "a superclass that isn't there",
+    );
     Ok(())
 }
 

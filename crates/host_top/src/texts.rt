@@ -1,17 +1,17 @@
 ghost use Rattle.std.specs.Prelude.{◌≡◌, ◌≤◌, ◌∷◌, ℕ, List, IfOk, IfErr, map, string_bytes, vec_len, length};
 ghost use Rattle.obj_edges.specs.Told.{Asks};
-ghost use Rattle.host_top.specs.Words.{Names};
 ghost use Rattle.host_top.specs.Texts.{Tells, AreRead, max_file_len};
 ghost use Rattle.host_top.specs.Refusals.{IsFileRefused, IsRefused};
 
 use crate::refusal::Refusal;
-use crate::words::file_names;
+use crate::words::{FileNames, file_names};
 use obj_edges::{FileError, Files};
 use std::alloc::Global;
 
-/// The texts of the two files of a run.
+/// The texts of the two files of a run, and the name of the first.
 #[derive(Debug, Drop)]
-pub(crate) struct Texts {
+pub(crate) struct Texts<'a> {
+    pub names: FileNames<'a>,
     pub class: Vec<u8>,
     pub script: Vec<u8>,
 }
@@ -41,8 +41,8 @@ pub(crate) fn read_texts<'a, F: Files>(
     alloc: Global,
     words: &'a [String],
     files: &mut F,
-) -> Result<Texts, Refusal<'a>>
-    ensures read { IfOk result (λ texts. (names : Names) × AreRead (map string_bytes words.now) (F.contents files.old) (F.asked files.old) (F.asked files.new) (record { names = names; class_text = texts.class.items; script_text = texts.script.items })) }
+) -> Result<Texts<'a>, Refusal<'a>>
+    ensures read { IfOk result (λ texts. AreRead (map string_bytes words.now) (F.contents files.old) (F.asked files.old) (F.asked files.new) (record { names = record { class = texts.names.class.now; script = texts.names.script.now }; class_text = texts.class.items; script_text = texts.script.items })) }
     ensures refused { IfErr result (IsRefused (map string_bytes words.now) (F.contents files.old) (F.asked files.old) (F.asked files.new) (F.faults files.old) (F.faults files.new)) }
     ensures never_falls { F.faults files.old ≤ F.faults files.new }
 {
@@ -51,5 +51,9 @@ pub(crate) fn read_texts<'a, F: Files>(
     };
     let class = read_file(alloc, files, names.class)?;
     let script = read_file(alloc, files, names.script)?;
-    Ok(Texts { class, script })
+    Ok(Texts {
+        names,
+        class,
+        script,
+    })
 }

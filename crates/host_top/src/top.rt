@@ -5,11 +5,11 @@ ghost use Rattle.host_top.specs.Run.{HasInput};
 ghost use Rattle.host_top.specs.Verdict.{Holds, TellsOf, Runs};
 ghost use Rattle.host_top.specs.Answer.{Says, Comes};
 
-use crate::job::{Job, run, understand};
+use crate::job::{Job, understand};
 use crate::refusal::Refusal;
+use crate::run::run;
 use crate::texts::read_texts;
 use crate::verdict::Verdict;
-use first_class::FormError;
 use first_path::{Ending, MAX_LINES};
 use obj_edges::{Device, Files, Put, Sink};
 use std::alloc::Global;
@@ -36,18 +36,15 @@ fn prepare<'a, F: Files>(
     ensures refused { IfErr result (IsRefused (map string_bytes words.now) (F.contents files.old) (F.asked files.old) (F.asked files.new) (F.faults files.old) (F.faults files.new)) }
 {
     let texts = read_texts(alloc, words, files)?;
-    match understand(alloc, &texts) {
-        Ok(job) => Ok(job),
-        Err(FormError::NotInForm) => Err(Refusal::BadForm),
-        Err(FormError::NoMemory) => Err(Refusal::Memory),
-    }
+    let job = understand(alloc, &texts)?;
+    Ok(job)
 }
 
 // Puts the message of a refusal.
 fn tell<'a, S: Sink>(alloc: Global, refusal: Refusal<'a>, sink: &mut S) -> Verdict<'a>
     ensures { TellsOf refusal.entry (S.told sink.old) (S.told sink.new) (S.faults sink.old) (S.faults sink.new) result }
 {
-    if matches!(refusal, Refusal::Memory) {
+    if matches!(&refusal, Refusal::Memory) {
         return Verdict::NoMemory;
     }
     let Ok(message) = refusal.message(alloc) else {
@@ -107,12 +104,14 @@ fn conduct<'a, F: Files, S: Sink, D: Device>(
 /// Runs the script that the words name over the class that they name.
 ///
 /// The words don't hold the program's name: `run`, the name of a class file, which ends in `.cls`,
-/// and that of a script. The work goes in this order: words, reading both files, their forms, the
-/// process, the report; the first refusal ends it. Device 1 is the process's, the others are spare.
+/// and that of a script. The work goes in this order: words, reading both files, the classes, linking,
+/// the forms that are built, the process, the report; the first refusal ends it. Device 1 is the
+/// process's, the others are spare.
 ///
 /// Each status has its cause, which the clauses tell: 0 and 1 where the process ran, 2 for a file of
-/// more than 16 MiB, 3 for want of memory, 4 and 5 where a read of the files or a put of the sink
-/// failed, 7 for other words, and 8 for texts that aren't in the forms that are built.
+/// more than 16 MiB, a class file that isn't in its grammar or classes that can't be linked, 3 for want
+/// of memory, 4 and 5 where a read of the files or a put of the sink failed, 7 for other words, and 8
+/// for classes and scripts that aren't in the forms that are built.
 pub fn step_main<F: Files, S: Sink, D: Device>(
     alloc: Global,
     words: &[String],

@@ -4,7 +4,7 @@ ghost use Rattle.host_top.specs.Verdict.{verdict_status};
 use crate::refusal::Refusal;
 
 /// How a run ended.
-#[derive(Clone, Copy, Debug)]
+#[derive(Debug, Drop)]
 pub enum Verdict<'a> {
     /// The process did all its lines, and the report was put.
     Done,

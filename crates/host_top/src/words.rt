@@ -5,7 +5,7 @@ ghost use Rattle.host_top.specs.Words.{is_class_file as class_file_test, begins_
 ghost use Rattle.host_top.specs.WordReading.{first_word, is_end as end_test, names_test, names_in};
 
 /// The names of a class file and of a script.
-#[derive(Clone, Copy)]
+#[derive(Clone, Copy, Debug)]
 pub(crate) struct FileNames<'a> {
     pub class: &'a str,
     pub script: &'a str,

@@ -1,5 +1,5 @@
 use Rattle.std.proofs.Common.{◌≡◌, ◌+◌, drop}
-use Rattle.first_class.specs.Words.{is_alphanumeric}
+use Rattle.first_class.specs.Names.{is_alphanumeric}
 use Rattle.first_path.specs.Pieces.{span}
 use Rattle.first_path.proofs.piece.name_len.Given as goal
 
