@@ -17,7 +17,7 @@ use Rattle.tran_log.proofs.LevelLaws.{get-noted, get-undone}
 use Rattle.store_core.specs.Machine.{State, seen, is_open, killed, stored, levels_at, turn, after}
 use Rattle.store_core.specs.Numbers.{incremented, as_value}
 use Rattle.store_core.specs.Cleared.{outermost}
-use Rattle.store_core.specs.Guard.{Guard, is_guarded, HoldsToEnd, MayWrite, Respects, last_has, commits}
+use Rattle.store_core.specs.Guard.{Guard, is_guarded, HoldsGuard, MayWrite, Respects, last_has, commits}
 use Rattle.store_core.proofs.Restored.{find_killed, get_killed}
 
 abbrev pub Old : Type 0
@@ -134,11 +134,11 @@ module _ (Own : Type 0) where
 
 -- ---- operations
 
-module _ (guard : Guard) (s : State) (p : Pid) (n row : Node) (is : guard n ≡ Some row) where
+module _ (guard : Guard) (s : State) (p : Pid) (n : Node) (gd : is_guarded guard n ≡ true) where
   abbrev IsNoted : Olds → Option Value → Type 0
   IsNoted es v =
       ((find node_cmp n es ≡ None) × (v ≡ get s.globals n))
-      ⊎ ((find node_cmp n es ≡ Some (get s.globals n)) × (is_open (levels_at s p.0) ≡ true) × HoldsToEnd s.holds p row)
+      ⊎ ((find node_cmp n es ≡ Some (get s.globals n)) × (is_open (levels_at s p.0) ≡ true) × HoldsGuard s.holds p (guard n))
 
   set_noted : (m : Node) (v : Value) → MayWrite guard s p m
       → IsNoted ((m, get s.globals m) ∷ []) (get (insert s.globals m v) n)
@@ -148,7 +148,7 @@ module _ (guard : Guard) (s : State) (p : Pid) (n row : Node) (is : guard n ≡ 
           → IsNoted ((m, get s.globals m) ∷ []) (get (insert s.globals m v) n)
       by true e =
           let same : n ≡ m = one_key node_exact n m e in
-          let h = may row (ap guard (sym same) ∙ is) in
+          let h = subst (MayWrite guard s p) (sym same) may gd in
           inr (ap (λ b. cond b (Some (get s.globals m)) None) e ∙ ap (λ k. Some (get s.globals k)) (sym same), h.0, h.1)
       by false e = inl (
         ap (λ b. cond b (Some (get s.globals m)) None) e,
@@ -172,7 +172,7 @@ module _ (guard : Guard) (s : State) (p : Pid) (n row : Node) (is : guard n ≡ 
       by : (b : Bool) → covers m n ≡ b → (o : Option Value) → get s.globals n ≡ o
           → IsNoted (killed s.globals m) (get (retain_keys s.globals (λ k. not (covers m k))) n)
       by true c (Some v) e =
-          let h = may n c (ap is_some e) row is in
+          let h = may n c (ap is_some e) gd in
           inr (find_is true c (Some v) e ∙ ap Some (sym e), h.0, h.1)
       by true c None e = inl (find_is true c None e, get_is true c ∙ sym e)
       by false c o e = inl (find_is false c o e, get_is false c)
@@ -189,13 +189,13 @@ module _ (guard : Guard) (s : State) (p : Pid) (n row : Node) (is : guard n ≡ 
       by false e = get-insert node_total s.globals m (as_value z) n ∙ ap (λ b. cond b (Some (as_value z)) (get s.globals n)) e
 
   pub turned : (op : Op) → Respects guard s p op
-      → IsTurned (HoldsToEnd s.holds p row) (commits (levels_at s p.0) op n) (outermost (levels_at s p.0) n) (get s.globals n)
+      → IsTurned (HoldsGuard s.holds p (guard n)) (commits (levels_at s p.0) op n) (outermost (levels_at s p.0) n) (get s.globals n)
       (outermost (turn (seen s p) p op).levels n) (get (turn (seen s p) p op).globals n)
   unfolding turn after
   turned (Set m v) may = write_turned _ (levels_at s p.0) _ n _ _ (set_noted m v may)
   turned (Kill m) may = write_turned _ (levels_at s p.0) _ n _ _ (kill_noted m may)
   turned (Incr m k) may =
-      let guarded : n ≡ m → is_guarded guard m ≡ true = λ same. ap (is_guarded guard) (sym same) ∙ ap is_some is in
+      let guarded : n ≡ m → is_guarded guard m ≡ true = λ same. ap (is_guarded guard) (sym same) ∙ gd in
       Left refl refl (number_kept m (incremented (get s.globals m) k) (λ same. may (guarded same)))
   turned Begin may = begun_turned _ (levels_at s p.0) n (get s.globals n)
   turned Commit may = commit_turned _ (levels_at s p.0) n (get s.globals n)
