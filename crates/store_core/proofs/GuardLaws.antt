@@ -13,7 +13,7 @@ use Rattle.global_tree.specs.Contents.{Globals}
 use Rattle.global_tree.proofs.MapLaws.{get-placed, one_key}
 use Rattle.lock_table.specs.declared.hold.Hold.{Hold}
 use Rattle.lock_table.specs.declared.hold.Kept.{Kept}
-use Rattle.lock_table.specs.Holds.{Holds, hold_cmp}
+use Rattle.lock_table.specs.Holds.{Holds, hold_cmp, kept}
 use Rattle.tran_log.specs.Levels.{Levels}
 use Rattle.store_core.specs.declared.entry.Entry.{Entry}
 use Rattle.store_core.specs.Machine.{State, seen, is_open, is_live, levels_at, live_with, turn, after, all_live, opening}
@@ -21,7 +21,7 @@ use Rattle.store_core.specs.History.{state_after}
 use Rattle.store_core.specs.Cleared.{outermost, cleared, cleared_upto}
 use Rattle.store_core.specs.Guard.{Guarding, Unguarded, GuardedBy, Closed, Guard, guards, is_guarded, HoldsGuard, names, Respects, IsLegalUnder, IsGuarded, commits, MovesAtCommits, last_committed, ends}
 use Rattle.store_core.proofs.FrameLaws.{others_stay, stays_free, no_levels, cleared_opening}
-use Rattle.store_core.proofs.GuardHolds.{IsToEnd, held_stays, one_holder}
+use Rattle.store_core.proofs.GuardHolds.{IsToEnd, held_stays, held_goes, one_holder}
 use Rattle.store_core.proofs.GuardTurns.{IsTurned, Left, Wrote, Undid, Committed, turned}
 
 same_or : (p q : ℕ) → (p ≡ q) ⊎ (p ≢ q)
@@ -88,6 +88,13 @@ unfolding after
 end_stays s p op h e own =
     held_stays (seen s p) p op h e (λ same. subst (λ ls. ends op (levels_at s p.0) ls ≡ false) (own_levels s p op) (own same))
 
+pub end_goes : (s : State) (p : Pid) (op : Op) (h : Hold) → h.pid.0 ≡ p.0
+    → ends op (levels_at s p.0) (levels_at (after s p op) p.0) ≡ true
+    → (kept (after s p op).holds h).to_end ≡ false
+unfolding after
+end_goes s p op h same e =
+    held_goes (seen s p) p op h same (subst (λ ls. ends op (levels_at s p.0) ls ≡ true) (own_levels s p op) e)
+
 -- with a level left, not all are left
 not_ended : (op : Op) (ls later : Levels) → is_open later ≡ true → op ≢ End → ends op ls later ≡ false
 not_ended End ls later e ne = absurd (ne refl)
@@ -136,15 +143,19 @@ not_named false h = refl
 closed_holds : (hs : Holds) (p : Pid) (g : Guarding) → g ≡ Closed → HoldsGuard hs p g → ⊥
 closed_holds hs p g e h = subst (HoldsGuard hs p) e h
 
-pub closed_unnamed : (guard : Guard) (s : State) (p : Pid) (n : Node) → guard n ≡ Closed → IsGuarded guard s → names (levels_at s p.0) n ≡ false
+pub closed_unnamed : (guard : Guard) (s : State) (p : Pid) (n : Node) → guard n ≡ Closed → IsGuarded guard s
+    → names (levels_at s p.0) n ≡ false
 closed_unnamed guard s p n c k = not_named _ (λ e. closed_holds s.holds p (guard n) c (k.held p n e))
 
-pub closed_unchanged : (guard : Guard) (s : State) (p : Pid) (op : Op) (n : Node) → guard n ≡ Closed → Respects guard s p op → IsGuarded guard s
+pub closed_unchanged : (guard : Guard) (s : State) (p : Pid) (op : Op) (n : Node) → guard n ≡ Closed
+    → Respects guard s p op → IsGuarded guard s
     → get (after s p op).globals n ≡ get s.globals n
-closed_unchanged guard s p op n c may k = ap (λ h. get h n) (turn_globals s p op) ∙ by (turned guard s p n (ap guards c) op may)
+closed_unchanged guard s p op n c may k =
+    ap (λ h. get h n) (turn_globals s p op) ∙ by (turned guard s p n (ap guards c) op may)
   where
     by : {b : Bool} {v : Option Value} {o : Option (Option Value)}
-        → IsTurned (HoldsGuard s.holds p (guard n)) b (outermost (levels_at s p.0) n) (get s.globals n) o v → v ≡ get s.globals n
+        → IsTurned (HoldsGuard s.holds p (guard n)) b (outermost (levels_at s p.0) n) (get s.globals n) o v
+        → v ≡ get s.globals n
     by (Left other same value) = value
     by (Wrote other own there same) = absurd (closed_holds s.holds p (guard n) c own)
     by (Undid other there same) = absurd (closed_holds s.holds p (guard n) c (k.held p n there))
@@ -188,7 +199,8 @@ still_numbered s p op live was q e =
 
 module _ (guard : Guard) (s : State) (p : Pid) (op : Op) (may : Respects guard s p op) (k : IsGuarded guard s) where
   -- who has the node after its turn held the guard before it
-  held_before : (n : Node) → is_guarded guard n ≡ true → names (levels_at (after s p op) p.0) n ≡ true → HoldsGuard s.holds p (guard n)
+  held_before : (n : Node) → is_guarded guard n ≡ true → names (levels_at (after s p op) p.0) n ≡ true
+      → HoldsGuard s.holds p (guard n)
   held_before n gd e = by (turned guard s p n gd op may) (ap (λ ls. names ls n) (sym (own_levels s p op)) ∙ e)
     where
       by : {b : Bool} {v v' : Option Value} {o : Option (Option Value)}
@@ -274,7 +286,8 @@ abbrev Turned : Type 0 → Bool → State → Pid → Node → Levels → Global
 Turned Own c s p n ls g = IsTurned Own c (outermost (levels_at s p.0) n) (get s.globals n) (outermost ls n) (get g n)
 
 module _ (guard : Guard) (s t : State) (p : Pid) (n : Node) (gd : is_guarded guard n ≡ true) (live : is_live s p ≡ true)
-    (k : IsGuarded guard s) (k' : IsGuarded guard t) (pids : t.pids ≡ s.pids) (others : (q : ℕ) → q ≢ p.0 → levels_at t q ≡ levels_at s q) where
+    (k : IsGuarded guard s) (k' : IsGuarded guard t) (pids : t.pids ≡ s.pids)
+    (others : (q : ℕ) → q ≢ p.0 → levels_at t q ≡ levels_at s q) where
   left_all : outermost (levels_at t p.0) n ≡ outermost (levels_at s p.0) n → (q : ℕ)
       → outermost (levels_at t q) n ≡ outermost (levels_at s q) n
   left_all same q = by (same_or q p.0)
@@ -307,7 +320,8 @@ module _ (guard : Guard) (s t : State) (p : Pid) (n : Node) (gd : is_guarded gua
       ∙ upto_one t p.0 n s.pids (λ q ne. ap (λ ls. outermost ls n) (others q ne) ∙ none q ne) r.0 r.1
       ∙ ap (λ o. unwrap_or o (get t.globals n)) gone
 
-  moved : {Own : Type 0} {c : Bool} → Turned Own c s p n (levels_at t p.0) t.globals → cleared t n ≡ cond c (get s.globals n) (cleared s n)
+  moved : {Own : Type 0} {c : Bool} → Turned Own c s p n (levels_at t p.0) t.globals
+      → cleared t n ≡ cond c (get s.globals n) (cleared s n)
   moved (Left other same value) = cleared_left s t n pids (left_all same) value ∙ sym (chosen other)
   moved (Wrote other own there same) =
       let none : (q : ℕ) → q ≢ p.0 → outermost (levels_at s q) n ≡ None = λ q ne.
@@ -316,7 +330,8 @@ module _ (guard : Guard) (s t : State) (p : Pid) (n : Node) (gd : is_guarded gua
   moved (Undid other there same) = both_one (others_none guard s p n gd k there) same ∙ sym (chosen other)
   moved (Committed is there gone value) = present (others_none guard s p n gd k there) gone ∙ value ∙ sym (chosen is)
 
-pub moves_at_commits : (guard : Guard) (s : State) (p : Pid) (op : Op) → is_live s p ≡ true → Respects guard s p op → IsGuarded guard s
+pub moves_at_commits : (guard : Guard) (s : State) (p : Pid) (op : Op) → is_live s p ≡ true → Respects guard s p op
+    → IsGuarded guard s
     → MovesAtCommits guard s p op
 moves_at_commits guard s p op live may k n gd =
     let c = commits (levels_at s p.0) op n in
@@ -333,21 +348,24 @@ front_guarded : (guard : Guard) (s : State) (es fs : List Entry) → IsGuarded g
     → IsGuarded guard (state_after s es)
 front_guarded guard s [] fs k legal = k
 front_guarded guard s (e ∷ es) fs k legal =
-    front_guarded guard (after s e.pid e.op) es fs (guarded_after guard s e.pid e.op legal.1.0 k legal.0.0.0) (legal.0.1, legal.1.1)
+    front_guarded guard (after s e.pid e.op) es fs (guarded_after guard s e.pid e.op legal.1.0 k legal.0.0.0)
+    (legal.0.1, legal.1.1)
 
 front_moves : (guard : Guard) (s : State) (es fs : List Entry) (e : Entry) → IsGuarded guard s
     → IsLegalUnder guard s (es ++ e ∷ fs)
     → MovesAtCommits guard (state_after s es) e.pid e.op
 front_moves guard s [] fs e k legal = moves_at_commits guard s e.pid e.op legal.0.0.0 legal.1.0 k
 front_moves guard s (x ∷ es) fs e k legal =
-    front_moves guard (after s x.pid x.op) es fs e (guarded_after guard s x.pid x.op legal.1.0 k legal.0.0.0) (legal.0.1, legal.1.1)
+    front_moves guard (after s x.pid x.op) es fs e (guarded_after guard s x.pid x.op legal.1.0 k legal.0.0.0)
+    (legal.0.1, legal.1.1)
 
 cleared_from : (guard : Guard) (s : State) (es : List Entry) (n : Node) → is_guarded guard n ≡ true
     → IsGuarded guard s → IsLegalUnder guard s es
     → cleared (state_after s es) n ≡ last_committed s es n (cleared s n)
 cleared_from guard s [] n gd k legal = refl
 cleared_from guard s (e ∷ es) n gd k legal =
-    cleared_from guard (after s e.pid e.op) es n gd (guarded_after guard s e.pid e.op legal.1.0 k legal.0.0.0) (legal.0.1, legal.1.1)
+    cleared_from guard (after s e.pid e.op) es n gd (guarded_after guard s e.pid e.op legal.1.0 k legal.0.0.0)
+    (legal.0.1, legal.1.1)
     ∙ ap (last_committed (after s e.pid e.op) es n) (moves_at_commits guard s e.pid e.op legal.0.0.0 legal.1.0 k n gd)
 
 pub history_guarded : (guard : Guard) (pids : ℕ) (g : Globals) (es fs : List Entry)
@@ -362,16 +380,19 @@ history_moves guard pids g es fs e = front_moves guard (opening pids g) es fs e 
 
 pub history_committed : (guard : Guard) (pids : ℕ) (g : Globals) (es : List Entry) (n : Node)
     → is_guarded guard n ≡ true
-    → IsLegalUnder guard (opening pids g) es → cleared (state_after (opening pids g) es) n ≡ last_committed (opening pids g) es n (get g n)
+    → IsLegalUnder guard (opening pids g) es
+    → cleared (state_after (opening pids g) es) n ≡ last_committed (opening pids g) es n (get g n)
 history_committed guard pids g es n gd legal =
     cleared_from guard (opening pids g) es n gd (opening_guarded guard pids g) legal
     ∙ ap (last_committed (opening pids g) es n) (cleared_opening pids g n)
 
-closed_from : (guard : Guard) (s : State) (es : List Entry) (n : Node) → guard n ≡ Closed → IsGuarded guard s → IsLegalUnder guard s es
+closed_from : (guard : Guard) (s : State) (es : List Entry) (n : Node) → guard n ≡ Closed → IsGuarded guard s
+    → IsLegalUnder guard s es
     → get (state_after s es).globals n ≡ get s.globals n
 closed_from guard s [] n c k legal = refl
 closed_from guard s (e ∷ es) n c k legal =
-    closed_from guard (after s e.pid e.op) es n c (guarded_after guard s e.pid e.op legal.1.0 k legal.0.0.0) (legal.0.1, legal.1.1)
+    closed_from guard (after s e.pid e.op) es n c (guarded_after guard s e.pid e.op legal.1.0 k legal.0.0.0)
+    (legal.0.1, legal.1.1)
     ∙ closed_unchanged guard s e.pid e.op n c legal.1.0 k
 
 pub history_closed : (guard : Guard) (pids : ℕ) (g : Globals) (es : List Entry) (n : Node) → guard n ≡ Closed

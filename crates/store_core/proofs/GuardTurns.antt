@@ -23,8 +23,9 @@ use Rattle.store_core.proofs.Restored.{find_killed, get_killed}
 abbrev pub Old : Type 0
 Old = Option (Option Value)
 
--- what the levels of a process keep of a node, o, and what the node has, v, and both after a turn of the process, o' and v';
--- Own says that the process holds the node's guard, and c whether it is an outermost commit with the node in its level
+-- what the levels of a process keep of a node, o, and what the node has, v, and both after a turn of the process, o'
+-- and v'; Own says that the process holds the node's guard, and c whether the turn is an outermost commit with the
+-- node in its level
 pub data IsTurned (Own : Type 0) (c : Bool) (o : Old) (v : Option Value) (o' : Old) (v' : Option Value) : Type 0 where
   Left : c ≡ false → o' ≡ o → v' ≡ v → IsTurned Own c o v o' v'
   Wrote : c ≡ false → Own → is_some o' ≡ true → unwrap_or o' v' ≡ unwrap_or o v → IsTurned Own c o v o' v'
@@ -166,7 +167,8 @@ module _ (guard : Guard) (s : State) (p : Pid) (n : Node) (gd : is_guarded guard
           ∙ ap (λ x. option_map Some (cond x (get s.globals n) None)) c
           ∙ ap (λ x. option_map Some (cond b x None)) e
 
-      get_is : (b : Bool) → covers m n ≡ b → get (retain_keys s.globals (λ k. not (covers m k))) n ≡ cond (not b) (get s.globals n) None
+      get_is : (b : Bool) → covers m n ≡ b
+          → get (retain_keys s.globals (λ k. not (covers m k))) n ≡ cond (not b) (get s.globals n) None
       get_is b c = get_killed s.globals m n ∙ ap (λ x. cond (not x) (get s.globals n) None) c
 
       by : (b : Bool) → covers m n ≡ b → (o : Option Value) → get s.globals n ≡ o

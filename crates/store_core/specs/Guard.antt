@@ -51,7 +51,7 @@ names ls n = is_some (outermost ls n)
 abbrev pub MayWrite : Guard → State → Pid → Node → Type 0
 MayWrite guard s p n = is_guarded guard n ≡ true → (is_open (levels_at s p.0) ≡ true) × HoldsGuard s.holds p (guard n)
 
--- the process may write each node that the operation sets or takes a value from, and no increment changes a guarded node
+-- the process may write each node that the operation sets or takes a value from; no increment changes a guarded node
 abbrev pub Respects : Guard → State → Pid → Op → Type 0
 Respects guard s p (Set n v) = MayWrite guard s p n
 Respects guard s p (Kill n) = (m : Node) → covers n m ≡ true → contains_key s.globals m ≡ true → MayWrite guard s p m
@@ -67,7 +67,8 @@ AllRespect guard s (e ∷ es) = Respects guard s e.pid e.op × AllRespect guard 
 abbrev pub IsLegalUnder : Guard → State → List Entry → Type 0
 IsLegalUnder guard s es = IsLegal s es × AllRespect guard s es
 
--- no two holds are in conflict, a process holds the guard of each node in its levels, and live processes are numbered from 1 on
+-- no two holds are in conflict, each process holds the guards of all nodes in its levels, and the live ones are
+-- numbered from 1 on
 pub record IsGuarded (guard : Guard) (s : State) : Type 0 where
   pub free : IsFree s.holds
   pub held : (p : Pid) (n : Node) → names (levels_at s p.0) n ≡ true → HoldsGuard s.holds p (guard n)

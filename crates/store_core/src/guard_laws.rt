@@ -14,13 +14,16 @@ ghost use Rattle.store_core.specs.Guard.{Guard, Closed, is_guarded, names, Respe
 ghost use Rattle.store_core.specs.Guard.{MovesAtCommits, last_committed, ends};
 
 /// A law of locks kept to the end, for every state, process and operation: such a lock stays unless
-/// the operation ends its process, or leaves the last of its process's levels. An unlock doesn't
-/// take it.
-pub fn locks_to_the_end_stay()
-    ensures { (s : State) (p : Pid) (op : Op) (h : Hold)
+/// the operation ends its process, or leaves the last of its process's levels, and then it goes. An
+/// unlock doesn't take it.
+pub fn locks_last_to_the_end()
+    ensures stay { (s : State) (p : Pid) (op : Op) (h : Hold)
         → (kept s.holds h).to_end ≡ true
         → (h.pid.0 ≡ p.0 → ends op (levels_at s p.0) (levels_at (after s p op) p.0) ≡ false)
         → (kept (after s p op).holds h).to_end ≡ true }
+    ensures go { (s : State) (p : Pid) (op : Op) (h : Hold)
+        → h.pid.0 ≡ p.0 → ends op (levels_at s p.0) (levels_at (after s p op) p.0) ≡ true
+        → (kept (after s p op).holds h).to_end ≡ false }
 {}
 
 /// A law of guarded nodes, for every guard: the store is guarded at the opening, and each operation
