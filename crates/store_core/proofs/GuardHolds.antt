@@ -1,11 +1,11 @@
 -- Which operations take holds to the end away, and who may have them.
-use Rattle.std.proofs.Common.{◌≡◌, ◌≢◌, ℕ, ◌-◌, Bool, true, false, cond, not, ◌==◌, ◌&&◌, ◌||◌, Option, Some, None, is_some, unwrap_or, refl, ap, ◌∙◌, arith}
+use Rattle.std.proofs.Common.{◌≡◌, ◌≢◌, ℕ, ◌-◌, Bool, true, false, cond, not, ◌==◌, ◌&&◌, ◌||◌, nat_lt, [], ◌∷◌, length, Option, Some, None, is_some, unwrap_or, refl, ap, ◌∙◌, arith}
 use Rattle.std.proofs.lemmas.Bool.Decides.{nat_tests}
-use Rattle.std.specs.FinMap.{get, contains_key}
+use Rattle.std.specs.FinMap.{get, contains_key, empty}
 use Rattle.obj_kinds.specs.declared.node.Node.{Node}
 use Rattle.obj_kinds.specs.declared.op.Pid.{Pid}
 use Rattle.obj_kinds.specs.declared.op.Op.{Op}
-use Rattle.obj_kinds.specs.declared.op.Op.TheVariants.{Lock, Unlock, UnlockAll, Commit, RollbackOne, RollbackAll, End}
+use Rattle.obj_kinds.specs.declared.op.Op.TheVariants.{Set, Kill, Lock, Unlock, UnlockAll, Begin, Commit, RollbackOne, RollbackAll, End}
 use Rattle.obj_kinds.specs.declared.op.Keep.{Keep}
 use Rattle.obj_kinds.specs.declared.op.Keep.TheVariants.{Counted, ToEnd}
 use Rattle.obj_kinds.specs.declared.op.Mode.TheVariants.{Exclusive}
@@ -17,6 +17,7 @@ use Rattle.lock_table.specs.Holds.{Holds, hold, is_same, kept, unheld, is_counte
 use Rattle.lock_table.specs.Conflict.{conflicts, refusing, asked}
 use Rattle.lock_table.specs.Calls.{IsFree}
 use Rattle.lock_table.proofs.KeptLaws.{kept_granted, kept_given_back, kept_all_given_back, kept_tran_ended, kept_all_dropped}
+use Rattle.tran_log.specs.Levels.{Olds, Levels, begun, note_top}
 use Rattle.store_core.specs.Machine.{Sight, is_open, turn}
 use Rattle.store_core.specs.Guard.{HoldsToEnd, ends}
 
@@ -97,6 +98,59 @@ held_stays s p RollbackOne h e own = left_stays s.holds p h _ own e
 held_stays s p RollbackAll h e own = left_stays s.holds p h _ own e
 held_stays s p End h e own = dropped_stays s.holds p h (λ same. cc (own same)) e
 held_stays s p _ h e own = e
+
+-- ---- where they go
+
+same_is : (p q : ℕ) → p ≡ q → (p == q) ≡ true
+same_is p q e = grind (arith, nat_tests)
+
+tran_ended_goes : (hs : Holds) (p : Pid) (x : Hold) → x.pid.0 ≡ p.0 → (kept (tran_ended hs p) x).to_end ≡ false
+tran_ended_goes hs p x same =
+    let was = kept hs x in
+    ap (λ (c : Kept). c.to_end) (kept_tran_ended hs p x)
+    ∙ ap (λ b. (cond b (record { counted = was.counted; to_end = false }) was).to_end) (same_is x.pid.0 p.0 same)
+
+dropped_goes : (hs : Holds) (p : Pid) (x : Hold) → x.pid.0 ≡ p.0 → (kept (all_dropped hs p) x).to_end ≡ false
+dropped_goes hs p x same =
+    ap (λ (c : Kept). c.to_end) (kept_all_dropped hs p x)
+    ∙ ap (λ b. (cond b unheld (kept hs x)).to_end) (same_is x.pid.0 p.0 same)
+
+left_goes : (hs : Holds) (p : Pid) (x : Hold) (b : Bool) → b ≡ true → x.pid.0 ≡ p.0
+    → (kept (cond b (tran_ended hs p) hs) x).to_end ≡ false
+left_goes hs p x true e same = tran_ended_goes hs p x same
+left_goes hs p x false e same = cc
+
+none_both : (b : Bool) → b && false ≡ true → ⊥
+none_both true e = cc
+none_both false e = cc
+
+none_left : (b : Bool) → b && not b ≡ true → ⊥
+none_left true e = cc
+none_left false e = cc
+
+noted_left : (ls : Levels) (es : Olds) → is_open ls && not (is_open (note_top ls es)) ≡ true → ⊥
+noted_left [] es e = cc
+noted_left (l ∷ ls) es e = cc
+
+begun_left : (ls : Levels) → is_open ls && not (is_open (begun ls)) ≡ true → ⊥
+begun_left ls = by (nat_lt (length ls) 255)
+  where
+    by : (b : Bool) → is_open ls && not (is_open (cond b (empty ∷ ls) ls)) ≡ true → ⊥
+    by true e = none_both (is_open ls) e
+    by false e = none_left (is_open ls) e
+
+pub held_goes : (s : Sight) (p : Pid) (op : Op) (h : Hold) → h.pid.0 ≡ p.0
+    → ends op s.levels (turn s p op).levels ≡ true
+    → (kept (turn s p op).holds h).to_end ≡ false
+unfolding turn
+held_goes s p (Set n v) h same e = absurd (noted_left s.levels _ e)
+held_goes s p (Kill n) h same e = absurd (noted_left s.levels _ e)
+held_goes s p Begin h same e = absurd (begun_left s.levels e)
+held_goes s p Commit h same e = left_goes s.holds p h _ e same
+held_goes s p RollbackOne h same e = left_goes s.holds p h _ e same
+held_goes s p RollbackAll h same e = left_goes s.holds p h _ e same
+held_goes s p End h same e = dropped_goes s.holds p h same
+held_goes s p _ h same e = absurd (none_left (is_open s.levels) e)
 
 -- ---- one holder
 

@@ -17,14 +17,15 @@ use Rattle.tran_log.proofs.LevelLaws.{get-noted, get-undone}
 use Rattle.store_core.specs.Machine.{State, seen, is_open, killed, stored, levels_at, turn, after}
 use Rattle.store_core.specs.Numbers.{incremented, as_value}
 use Rattle.store_core.specs.Cleared.{outermost}
-use Rattle.store_core.specs.Guard.{Guard, is_guarded, HoldsToEnd, MayWrite, Respects, last_has, commits}
+use Rattle.store_core.specs.Guard.{Guard, is_guarded, HoldsGuard, MayWrite, Respects, last_has, commits}
 use Rattle.store_core.proofs.Restored.{find_killed, get_killed}
 
 abbrev pub Old : Type 0
 Old = Option (Option Value)
 
--- what the levels of a process keep of a node, o, and what the node has, v, and both after a turn of the process, o' and v';
--- Own says that the process holds the node's guard, and c whether it is an outermost commit with the node in its level
+-- what the levels of a process keep of a node, o, and what the node has, v, and both after a turn of the process, o'
+-- and v'; Own says that the process holds the node's guard, and c whether the turn is an outermost commit with the
+-- node in its level
 pub data IsTurned (Own : Type 0) (c : Bool) (o : Old) (v : Option Value) (o' : Old) (v' : Option Value) : Type 0 where
   Left : c ≡ false → o' ≡ o → v' ≡ v → IsTurned Own c o v o' v'
   Wrote : c ≡ false → Own → is_some o' ≡ true → unwrap_or o' v' ≡ unwrap_or o v → IsTurned Own c o v o' v'
@@ -134,11 +135,11 @@ module _ (Own : Type 0) where
 
 -- ---- operations
 
-module _ (guard : Guard) (s : State) (p : Pid) (n row : Node) (is : guard n ≡ Some row) where
+module _ (guard : Guard) (s : State) (p : Pid) (n : Node) (gd : is_guarded guard n ≡ true) where
   abbrev IsNoted : Olds → Option Value → Type 0
   IsNoted es v =
       ((find node_cmp n es ≡ None) × (v ≡ get s.globals n))
-      ⊎ ((find node_cmp n es ≡ Some (get s.globals n)) × (is_open (levels_at s p.0) ≡ true) × HoldsToEnd s.holds p row)
+      ⊎ ((find node_cmp n es ≡ Some (get s.globals n)) × (is_open (levels_at s p.0) ≡ true) × HoldsGuard s.holds p (guard n))
 
   set_noted : (m : Node) (v : Value) → MayWrite guard s p m
       → IsNoted ((m, get s.globals m) ∷ []) (get (insert s.globals m v) n)
@@ -148,7 +149,7 @@ module _ (guard : Guard) (s : State) (p : Pid) (n row : Node) (is : guard n ≡ 
           → IsNoted ((m, get s.globals m) ∷ []) (get (insert s.globals m v) n)
       by true e =
           let same : n ≡ m = one_key node_exact n m e in
-          let h = may row (ap guard (sym same) ∙ is) in
+          let h = subst (MayWrite guard s p) (sym same) may gd in
           inr (ap (λ b. cond b (Some (get s.globals m)) None) e ∙ ap (λ k. Some (get s.globals k)) (sym same), h.0, h.1)
       by false e = inl (
         ap (λ b. cond b (Some (get s.globals m)) None) e,
@@ -166,13 +167,14 @@ module _ (guard : Guard) (s : State) (p : Pid) (n row : Node) (is : guard n ≡ 
           ∙ ap (λ x. option_map Some (cond x (get s.globals n) None)) c
           ∙ ap (λ x. option_map Some (cond b x None)) e
 
-      get_is : (b : Bool) → covers m n ≡ b → get (retain_keys s.globals (λ k. not (covers m k))) n ≡ cond (not b) (get s.globals n) None
+      get_is : (b : Bool) → covers m n ≡ b
+          → get (retain_keys s.globals (λ k. not (covers m k))) n ≡ cond (not b) (get s.globals n) None
       get_is b c = get_killed s.globals m n ∙ ap (λ x. cond (not x) (get s.globals n) None) c
 
       by : (b : Bool) → covers m n ≡ b → (o : Option Value) → get s.globals n ≡ o
           → IsNoted (killed s.globals m) (get (retain_keys s.globals (λ k. not (covers m k))) n)
       by true c (Some v) e =
-          let h = may n c (ap is_some e) row is in
+          let h = may n c (ap is_some e) gd in
           inr (find_is true c (Some v) e ∙ ap Some (sym e), h.0, h.1)
       by true c None e = inl (find_is true c None e, get_is true c ∙ sym e)
       by false c o e = inl (find_is false c o e, get_is false c)
@@ -189,13 +191,13 @@ module _ (guard : Guard) (s : State) (p : Pid) (n row : Node) (is : guard n ≡ 
       by false e = get-insert node_total s.globals m (as_value z) n ∙ ap (λ b. cond b (Some (as_value z)) (get s.globals n)) e
 
   pub turned : (op : Op) → Respects guard s p op
-      → IsTurned (HoldsToEnd s.holds p row) (commits (levels_at s p.0) op n) (outermost (levels_at s p.0) n) (get s.globals n)
+      → IsTurned (HoldsGuard s.holds p (guard n)) (commits (levels_at s p.0) op n) (outermost (levels_at s p.0) n) (get s.globals n)
       (outermost (turn (seen s p) p op).levels n) (get (turn (seen s p) p op).globals n)
   unfolding turn after
   turned (Set m v) may = write_turned _ (levels_at s p.0) _ n _ _ (set_noted m v may)
   turned (Kill m) may = write_turned _ (levels_at s p.0) _ n _ _ (kill_noted m may)
   turned (Incr m k) may =
-      let guarded : n ≡ m → is_guarded guard m ≡ true = λ same. ap (is_guarded guard) (sym same) ∙ ap is_some is in
+      let guarded : n ≡ m → is_guarded guard m ≡ true = λ same. ap (is_guarded guard) (sym same) ∙ gd in
       Left refl refl (number_kept m (incremented (get s.globals m) k) (λ same. may (guarded same)))
   turned Begin may = begun_turned _ (levels_at s p.0) n (get s.globals n)
   turned Commit may = commit_turned _ (levels_at s p.0) n (get s.globals n)

@@ -1,5 +1,5 @@
 -- Guards: which node a process has to hold before it writes another.
-use Rattle.std.specs.Prelude.{◌≡◌, ◌<◌, ◌≤◌, Bool, true, false, not, ◌&&◌, cond, List, [], ◌∷◌, Option, Some, is_some}
+use Rattle.std.specs.Prelude.{◌≡◌, ◌<◌, ◌≤◌, Bool, true, false, not, ◌&&◌, cond, List, [], ◌∷◌, Option, is_some}
 use Rattle.std.specs.FinMap.{get, contains_key}
 use Rattle.obj_kinds.specs.declared.node.Node.{Node}
 use Rattle.obj_kinds.specs.declared.value.Value.{Value}
@@ -17,16 +17,31 @@ use Rattle.store_core.specs.Machine.{State, levels_at, is_live, is_open, after}
 use Rattle.store_core.specs.History.{IsLegal}
 use Rattle.store_core.specs.Cleared.{outermost, cleared}
 
--- the node that guards a node; none where it isn't guarded
+-- how a node is guarded: not at all, by the lock of a node, or so that no process may write it
+pub data Guarding : Type 0 where
+  Unguarded : Guarding
+  GuardedBy : Node → Guarding
+  Closed : Guarding
+
 abbrev pub Guard : Type 0
-Guard = Node → Option Node
+Guard = Node → Guarding
+
+abbrev pub guards : Guarding → Bool
+guards Unguarded = false
+guards _ = true
 
 abbrev pub is_guarded : Guard → Node → Bool
-is_guarded guard n = is_some (guard n)
+is_guarded guard n = guards (guard n)
 
 -- the process holds the node exclusively to the end of its transaction, on whosever behalf
 abbrev pub HoldsToEnd : Holds → Pid → Node → Type 0
 HoldsToEnd hs p n = (o : Owner) × ((kept hs (hold p n Exclusive o)).to_end ≡ true)
+
+-- the process has what the guarding asks of a writer
+abbrev pub HoldsGuard : Holds → Pid → Guarding → Type 0
+HoldsGuard hs p Unguarded = Unit {0}
+HoldsGuard hs p (GuardedBy row) = HoldsToEnd hs p row
+HoldsGuard hs p Closed = ⊥
 
 -- whether one of the levels has the node
 abbrev pub names : Levels → Node → Bool
@@ -34,9 +49,9 @@ names ls n = is_some (outermost ls n)
 
 -- where the node is guarded, the process has a level open and holds the node's guard
 abbrev pub MayWrite : Guard → State → Pid → Node → Type 0
-MayWrite guard s p n = (row : Node) → guard n ≡ Some row → (is_open (levels_at s p.0) ≡ true) × HoldsToEnd s.holds p row
+MayWrite guard s p n = is_guarded guard n ≡ true → (is_open (levels_at s p.0) ≡ true) × HoldsGuard s.holds p (guard n)
 
--- the process may write each node that the operation sets or takes a value from, and no increment changes a guarded node
+-- the process may write each node that the operation sets or takes a value from; no increment changes a guarded node
 abbrev pub Respects : Guard → State → Pid → Op → Type 0
 Respects guard s p (Set n v) = MayWrite guard s p n
 Respects guard s p (Kill n) = (m : Node) → covers n m ≡ true → contains_key s.globals m ≡ true → MayWrite guard s p m
@@ -52,10 +67,11 @@ AllRespect guard s (e ∷ es) = Respects guard s e.pid e.op × AllRespect guard 
 abbrev pub IsLegalUnder : Guard → State → List Entry → Type 0
 IsLegalUnder guard s es = IsLegal s es × AllRespect guard s es
 
--- no two holds are in conflict, a process with a guarded node in a level holds its guard, and live processes are numbered from 1 on
+-- no two holds are in conflict, each process holds the guards of all nodes in its levels, and the live ones are
+-- numbered from 1 on
 pub record IsGuarded (guard : Guard) (s : State) : Type 0 where
   pub free : IsFree s.holds
-  pub held : (p : Pid) (n row : Node) → guard n ≡ Some row → names (levels_at s p.0) n ≡ true → HoldsToEnd s.holds p row
+  pub held : (p : Pid) (n : Node) → names (levels_at s p.0) n ≡ true → HoldsGuard s.holds p (guard n)
   pub numbered : (p : Pid) → is_live s p ≡ true → (0 < p.0) × (p.0 ≤ s.pids)
 
 -- whether there is one level alone, and it has the node

@@ -22,7 +22,7 @@ mod writes;
 pub use entry::Entry;
 pub use guard_laws::{
     cleared_values_are_of_one_process, cleared_values_move_at_commits, guards_keep_writers_apart,
-    histories_respect_guards, locks_to_the_end_stay,
+    histories_respect_guards, locks_last_to_the_end,
 };
 pub use history::History;
 pub use laws::{
