@@ -1,8 +1,9 @@
-ghost use Rattle.std.specs.Prelude.{◌≡◌, ℕ, [], ◌++◌, ◌+◌, ◌<◌, ◌^◌, length, IfOk, OnOk, fold, filter_map, slice_get, Some};
-ghost use Rattle.schema_kinds.specs.Links.{row, IsInRing};
+ghost use Rattle.std.specs.Prelude.{◌≡◌, ℕ, [], ◌++◌, ◌+◌, ◌<◌, ◌^◌, length, map, IfOk, OnOk, fold, filter_map, slice_get, Some};
+ghost use Rattle.schema_kinds.specs.Links.{row, IsInRing, rank as rank_of};
 ghost use Rattle.schema_kinds.specs.Hierarchy.{IsHierarchyOf};
 ghost use Rattle.class_facts.specs.Spots.{add_spots, put_spots};
 ghost use Rattle.class_facts.specs.Trees.{own_props, own_indexes, prop_spots, index_spots, supers_of, members_with, headers_of, super_links};
+ghost use Rattle.class_facts.specs.Facts.{count_from};
 ghost use Rattle.class_facts.specs.Gathered.{AreGathered, AreGatheredTo};
 
 use crate::spots::{Spot, SpotTable};
@@ -172,21 +173,65 @@ pub fn supers_at(hierarchy: &Hierarchy, class: usize) -> &[usize]
     }
 }
 
+fn push_ranks(
+    hierarchy: &Hierarchy,
+    from: usize,
+    count: usize,
+    ranks: &mut Items<usize>,
+) -> Result<(), NoMemory>
+    requires { from + count < 2 ^ 63 }
+    ensures { OnOk result (ranks.new ≡ ranks.old ++ map (λ i. rank_of hierarchy.now.above i) (count_from from count)) }
+{
+    if count == 0 {
+        return Ok(());
+    }
+    ranks.push(hierarchy.rank(from))?;
+    push_ranks(hierarchy, from + 1, count - 1, ranks)?;
+    Ok(())
+}
+
+/// The rank of each class, counted once.
+fn find_ranks(
+    alloc: Global,
+    hierarchy: &Hierarchy,
+    count: usize,
+) -> Result<Items<usize>, NoMemory>
+    requires { count < 2 ^ 63 }
+    ensures { IfOk result (λ ranks. ranks ≡ map (λ i. rank_of hierarchy.now.above i) (count_from 0 count)) }
+{
+    let mut ranks = Items::new(alloc);
+    push_ranks(hierarchy, 0, count, &mut ranks)?;
+    Ok(ranks)
+}
+
+fn rank_at(trees: &[ClassTree], hierarchy: &Hierarchy, ranks: &Items<usize>, class: usize) -> usize
+    requires class { class < length trees.now }
+    requires ranks { ranks.now ≡ map (λ i. rank_of hierarchy.now.above i) (count_from 0 (length trees.now)) }
+    ensures { result ≡ rank_of hierarchy.now.above class }
+{
+    match ranks.get(class) {
+        Some(found) => *found,
+        None => hierarchy.rank(class),
+    }
+}
+
 fn gather_at(
     alloc: Global,
     trees: &[ClassTree],
     hierarchy: &Hierarchy,
     rank: usize,
     class: usize,
+    here: usize,
     done: &mut Items<Members>,
 ) -> Result<(), NoMemory>
     requires class { class < length trees.now }
+    requires here { here ≡ rank_of hierarchy.now.above class }
     requires hierarchy { IsHierarchyOf (headers_of trees.now) hierarchy.now }
     requires no_ring { (i : ℕ) → i < length trees.now → ¬ IsInRing (super_links trees.now) i }
     requires before { AreGatheredTo trees.now hierarchy.now.above rank class done.old }
     ensures { OnOk result (AreGatheredTo trees.now hierarchy.now.above rank (class + 1) done.new) }
 {
-    if hierarchy.rank(class) == rank {
+    if here == rank {
         let members = gather_one(
             alloc,
             trees,
@@ -203,16 +248,19 @@ fn gather_rank(
     alloc: Global,
     trees: &[ClassTree],
     hierarchy: &Hierarchy,
+    ranks: &Items<usize>,
     rank: usize,
     done: &mut Items<Members>,
 ) -> Result<(), NoMemory>
+    requires ranks { ranks.now ≡ map (λ i. rank_of hierarchy.now.above i) (count_from 0 (length trees.now)) }
     requires hierarchy { IsHierarchyOf (headers_of trees.now) hierarchy.now }
     requires no_ring { (i : ℕ) → i < length trees.now → ¬ IsInRing (super_links trees.now) i }
     requires before { AreGatheredTo trees.now hierarchy.now.above rank 0 done.old }
     ensures { OnOk result (AreGatheredTo trees.now hierarchy.now.above (rank + 1) 0 done.new) }
 {
     for class in 0..trees.len() {
-        gather_at(alloc, trees, hierarchy, rank, class, done)?;
+        let here = rank_at(trees, hierarchy, ranks, class);
+        gather_at(alloc, trees, hierarchy, rank, class, here, done)?;
     }
     Ok(())
 }
@@ -240,9 +288,17 @@ pub fn gather_all(
     requires no_ring { (i : ℕ) → i < length trees.now → ¬ IsInRing (super_links trees.now) i }
     ensures { IfOk result (AreGathered trees.now) }
 {
+    let ranks = find_ranks(alloc, hierarchy, trees.len())?;
     let mut done = no_members(alloc, trees.len())?;
     for rank in 0..trees.len() + 1 {
-        gather_rank(alloc, trees, hierarchy, rank, &mut done)?;
+        gather_rank(
+            alloc,
+            trees,
+            hierarchy,
+            &ranks,
+            rank,
+            &mut done,
+        )?;
     }
     Ok(done)
 }

@@ -1,6 +1,6 @@
--- Marks that are passed on until nothing changes are on all that is above.
-use Rattle.std.proofs.Common.{◌≡◌, ℕ, zero, suc, ◌+◌, ◌<◌, ◌≤◌, ◌⊎◌, inl, inr, Bool, true, false, List, [], ◌∷◌, length, get_or, slice_set, IsTrue, replicate, refl, sym, ap, subst, ◌∙◌, arith}
-use Rattle.schema_kinds.specs.Links.{IsIn, row, IsUp, IsAtOrBelow, IsWithin, AreWithin, AreAbove, mark_at, unmarked, mark_all, mark_all_if, pass_on}
+-- Marks that are passed on from each marked place, until none is ahead, are on all that is above.
+use Rattle.std.proofs.Common.{◌≡◌, ℕ, zero, suc, ◌+◌, ◌<◌, ◌≤◌, ◌⊎◌, inl, inr, Bool, true, false, cond, List, [], ◌∷◌, ◌++◌, length, slice_set, IsTrue, replicate, refl, sym, ap, subst, ◌∙◌, arith}
+use Rattle.schema_kinds.specs.Links.{IsIn, row, IsUp, IsAtOrBelow, IsWithin, AreWithin, AreAbove, mark_at, unmarked, mark_all, fresh, news}
 
 -- what is marked in xs is marked in ys
 abbrev pub Grows : List Bool → List Bool → Type 0
@@ -59,16 +59,6 @@ pub Grows-mark_all : (ss : List ℕ) (ms : List Bool) → Grows ms (mark_all ss 
 Grows-mark_all [] ms = Grows-refl ms
 Grows-mark_all (s ∷ ss) ms = Grows-trans ms (slice_set ms s true) (mark_all ss (slice_set ms s true)) (Grows-set ms s) (Grows-mark_all ss (slice_set ms s true))
 
-pub Grows-mark_all_if : (b : Bool) (ss : List ℕ) (ms : List Bool) → Grows ms (mark_all_if b ss ms)
-Grows-mark_all_if true ss ms = Grows-mark_all ss ms
-Grows-mark_all_if false ss ms = Grows-refl ms
-
-pub Grows-pass_on : (rows : List (List ℕ)) (i : ℕ) (ms : List Bool) → Grows ms (pass_on rows i ms)
-Grows-pass_on [] i ms = Grows-refl ms
-Grows-pass_on (r ∷ rows) i ms =
-    let once = mark_all_if (mark_at ms i) r ms in
-    Grows-trans ms once (pass_on rows (i + 1) once) (Grows-mark_all_if (mark_at ms i) r ms) (Grows-pass_on rows (i + 1) once)
-
 set-marks : (ms : List Bool) (s : ℕ) → s < length ms → IsTrue (mark_at (slice_set ms s true) s)
 set-marks [] s h = absurd (omega arith)
 set-marks (m ∷ ms) zero h = refl
@@ -97,54 +87,6 @@ module _ (P : ℕ → Type 0) where
       (λ j m. elim (mark-was ms s j m) [ inl e ↦ new j (inl e) | inr t ↦ was j t ])
       (λ j i. new j (inr i)) k h
 
-  pub mark_all_if-only : (b : Bool) (ss : List ℕ) (ms : List Bool) → ((k : ℕ) → IsTrue (mark_at ms k) → P k) → (b ≡ true → (k : ℕ) → IsIn k ss → P k) → (k : ℕ) → IsTrue (mark_at (mark_all_if b ss ms) k) → P k
-  mark_all_if-only true ss ms was new k h = mark_all-only ss ms was (new refl) k h
-  mark_all_if-only false ss ms was new k h = was k h
-
-  pub pass_on-only : (rows : List (List ℕ)) (i : ℕ) (ms : List Bool) → ((k : ℕ) → IsTrue (mark_at ms k) → P k)
-      → ((j k : ℕ) → P (i + j) → IsIn k (get_or rows j []) → P k) → (k : ℕ) → IsTrue (mark_at (pass_on rows i ms) k) → P k
-  pass_on-only [] i ms was step k h = was k h
-  pass_on-only (r ∷ rows) i ms was step k h =
-      pass_on-only rows (i + 1) (mark_all_if (mark_at ms i) r ms)
-      (mark_all_if-only (mark_at ms i) r ms was (λ m j into. step 0 j (let e : i ≡ i + 0 = omega arith in subst P e (was i m)) into))
-      (λ j l p into. step (suc j) l (let e : i + 1 + j ≡ i + suc j = omega arith in subst P e p) into) k h
-
--- marks that a round leaves as they are lead nowhere else
-pub pass_on-closed : (rows : List (List ℕ)) (i : ℕ) (ms : List Bool) → AreWithin rows (length ms) → pass_on rows i ms ≡ ms
-    → (j s : ℕ) → IsTrue (mark_at ms (i + j)) → IsIn s (get_or rows j []) → IsTrue (mark_at ms s)
-pass_on-closed [] i ms w same j s h into = absurd into
-pass_on-closed (r ∷ rows) i ms w same j s h into = by (λ l m n. pass_on-closed rows (i + 1) ms w.1 rest l s m n) j h into
-  where
-    once : List Bool
-    once = mark_all_if (mark_at ms i) r ms
-
-    forth : Grows ms (mark_all_if (mark_at ms i) r ms)
-    forth = Grows-mark_all_if (mark_at ms i) r ms
-
-    back : Grows (mark_all_if (mark_at ms i) r ms) ms
-    back = subst (Grows (mark_all_if (mark_at ms i) r ms)) same (Grows-pass_on rows (i + 1) (mark_all_if (mark_at ms i) r ms))
-
-    unchanged : mark_all_if (mark_at ms i) r ms ≡ ms
-    unchanged = same-Grows ms (mark_all_if (mark_at ms i) r ms) forth (unmarked-Grows (mark_all_if (mark_at ms i) r ms) ms back)
-
-    rest : pass_on rows (i + 1) ms ≡ ms
-    rest = sym (ap (pass_on rows (i + 1)) unchanged) ∙ same
-
-    here : mark_at ms i ≡ true → IsIn s r → IsTrue (mark_at ms s)
-    here m into = subst (λ l. IsTrue (mark_at l s)) (sym (ap (λ b. mark_all_if b r ms) m) ∙ unchanged) (mark_all-marks r ms s w.0 into)
-
-    by : ((j : ℕ) → IsTrue (mark_at ms (i + 1 + j)) → IsIn s (get_or rows j []) → IsTrue (mark_at ms s))
-        → (j : ℕ) → IsTrue (mark_at ms (i + j)) → IsIn s (get_or (r ∷ rows) j []) → IsTrue (mark_at ms s)
-    by more zero h into = here (let e : i + 0 ≡ i = omega arith in subst (λ k. IsTrue (mark_at ms k)) e h) into
-    by more (suc j) h into = more j (let e : i + suc j ≡ i + 1 + j = omega arith in subst (λ k. IsTrue (mark_at ms k)) e h) into
-
--- so they have all that is above what they have
-pub marks-up : (links : List (List ℕ)) (ms : List Bool) → AreWithin links (length ms) → pass_on links 0 ms ≡ ms
-    → (k a b : ℕ) → IsTrue (mark_at ms a) → IsUp links k a b → IsTrue (mark_at ms b)
-marks-up links ms w same zero a b h up = subst (λ k. IsTrue (mark_at ms k)) up h
-marks-up links ms w same (suc k) a b h up =
-    marks-up links ms w same k up.0 b (pass_on-closed links 0 ms w same a up.0 (let e : a ≡ 0 + a = omega arith in subst (λ k. IsTrue (mark_at ms k)) e h) up.1) up.2
-
 -- one more step up
 pub IsUp-more : (links : List (List ℕ)) (k a s b : ℕ) → IsUp links k a s → IsIn b (row links s) → IsUp links (suc k) a b
 IsUp-more links zero a s b up into = (b, subst (λ k. IsIn b (row links k)) (sym up) into, refl)
@@ -159,55 +101,147 @@ length-none : (n : ℕ) → length (replicate n false) ≡ n
 length-none zero = refl
 length-none (suc n) = ap suc (length-none n)
 
-unmarked-bound : (ms : List Bool) → unmarked ms ≤ length ms
-unmarked-bound [] = omega arith
-unmarked-bound (true ∷ ms) = let r = unmarked-bound ms in omega arith
-unmarked-bound (false ∷ ms) = let r = unmarked-bound ms in omega arith
+row-within : (links : List (List ℕ)) (n a : ℕ) → AreWithin links n → IsWithin (row links a) n
+row-within [] n a w = tt
+row-within (r ∷ rows) n zero w = w.0
+row-within (r ∷ rows) n (suc a) w = row-within rows n a w.1
 
--- what the rounds keep, where the last one found so many unmarked
-pub record Rounds (links : List (List ℕ)) (start : ℕ) (marks : List Bool) (left : ℕ) : Type 0 where
+-- places put together
+into-left : (s : ℕ) (xs ys : List ℕ) → IsIn s xs → IsIn s (xs ++ ys)
+into-left s [] ys h = absurd h
+into-left s (x ∷ xs) ys (inl e) = inl e
+into-left s (x ∷ xs) ys (inr h) = inr (into-left s xs ys h)
+
+into-right : (s : ℕ) (xs ys : List ℕ) → IsIn s ys → IsIn s (xs ++ ys)
+into-right s [] ys h = h
+into-right s (x ∷ xs) ys h = inr (into-right s xs ys h)
+
+into-either : (s : ℕ) (xs ys : List ℕ) → IsIn s (xs ++ ys) → IsIn s xs ⊎ IsIn s ys
+into-either s [] ys h = inr h
+into-either s (x ∷ xs) ys (inl e) = inl (inl e)
+into-either s (x ∷ xs) ys (inr h) = elim (into-either s xs ys h) [ inl l ↦ inl (inr l) | inr r ↦ inr r ]
+
+-- what is newly marked is put ahead
+unmarked-set : (ms : List Bool) (s : ℕ) → s < length ms → unmarked (slice_set ms s true) + cond (mark_at ms s) 0 1 ≡ unmarked ms
+unmarked-set [] s h = absurd (omega arith)
+unmarked-set (true ∷ ms) zero h = omega arith
+unmarked-set (false ∷ ms) zero h = omega arith
+unmarked-set (true ∷ ms) (suc s) h = let r = unmarked-set ms s (omega arith) in omega (arith, r)
+unmarked-set (false ∷ ms) (suc s) h = let r = unmarked-set ms s (omega arith) in omega (arith, r)
+
+fresh-length : (b : Bool) (s : ℕ) → length (cond b [] (s ∷ [])) ≡ cond b 0 1
+fresh-length true s = refl
+fresh-length false s = refl
+
+length-append : (xs ys : List ℕ) → length (xs ++ ys) ≡ length xs + length ys
+length-append [] ys = omega arith
+length-append (x ∷ xs) ys = let r = length-append xs ys in omega (arith, r)
+
+pub unmarked-news : (ss : List ℕ) (ms : List Bool) → IsWithin ss (length ms) → unmarked (mark_all ss ms) + length (news ss ms) ≡ unmarked ms
+unmarked-news [] ms w = omega arith
+unmarked-news (s ∷ ss) ms w =
+    let one = unmarked-set ms s w.0 in
+    let more = unmarked-news ss (slice_set ms s true) (subst (IsWithin ss) (sym (Grows-length ms (slice_set ms s true) (Grows-set ms s))) w.1) in
+    let both = length-append (fresh ms s) (news ss (slice_set ms s true)) in
+    omega (arith, one, more, both, fresh-length (mark_at ms s) s)
+
+news-in : (ss : List ℕ) (ms : List Bool) (k : ℕ) → IsIn k (news ss ms) → IsIn k ss
+news-in [] ms k h = h
+news-in (s ∷ ss) ms k h = elim (into-either k (fresh ms s) (news ss (slice_set ms s true)) h) [ inl f ↦ inl (by (mark_at ms s) f) | inr n ↦ inr (news-in ss (slice_set ms s true) k n) ]
+  where
+    by : (b : Bool) → IsIn k (cond b [] (s ∷ [])) → k ≡ s
+    by true f = absurd f
+    by false (inl e) = e
+    by false (inr f) = absurd f
+
+news-mark : (ss : List ℕ) (ms : List Bool) (k : ℕ) → IsTrue (mark_at (mark_all ss ms) k) → IsTrue (mark_at ms k) ⊎ IsIn k (news ss ms)
+news-mark [] ms k h = inl h
+news-mark (s ∷ ss) ms k h = elim (news-mark ss (slice_set ms s true) k h) [ inl m ↦ was (mark-was ms s k m) | inr n ↦ inr (into-right k (fresh ms s) (news ss (slice_set ms s true)) n) ]
+  where
+    here : k ≡ s → (b : Bool) → mark_at ms s ≡ b → IsTrue (mark_at ms k) ⊎ IsIn k (cond b [] (s ∷ []) ++ news ss (slice_set ms s true))
+    here e true m = inl (subst (λ j. IsTrue (mark_at ms j)) (sym e) m)
+    here e false m = inr (inl e)
+
+    was : (k ≡ s) ⊎ IsTrue (mark_at ms k) → IsTrue (mark_at ms k) ⊎ IsIn k (fresh ms s ++ news ss (slice_set ms s true))
+    was (inl e) = here e (mark_at ms s) refl
+    was (inr m) = inl m
+
+-- what is kept while some marked places are still ahead
+pub record Worked (links : List (List ℕ)) (start : ℕ) (marks : List Bool) (ahead : List ℕ) : Type 0 where
   pub as_long : length marks ≡ length links
   pub first : IsTrue (mark_at marks start)
   pub true_marks : (b : ℕ) → IsTrue (mark_at marks b) → IsAtOrBelow links start b
-  pub settled : left ≤ unmarked marks → pass_on links 0 marks ≡ marks
+  pub ahead_marked : (b : ℕ) → IsIn b ahead → IsTrue (mark_at marks b)
+  pub closed : (b s : ℕ) → IsTrue (mark_at marks b) → IsIn s (row links b) → IsIn b ahead ⊎ IsTrue (mark_at marks s)
 
-pub Rounds-begin : (links : List (List ℕ)) (start : ℕ) (marks : List Bool) → start < length links → marks ≡ slice_set (replicate (length links) false) start true
-    → Rounds links start marks (length links + 1)
-Rounds-begin links start marks h e = subst (λ ms. Rounds links start ms (length links + 1)) (sym e) begun
+pub Worked-begin : (links : List (List ℕ)) (start : ℕ) (marks : List Bool) (ahead : List ℕ) → start < length links
+    → marks ≡ slice_set (replicate (length links) false) start true → ahead ≡ start ∷ [] → Worked links start marks ahead
+Worked-begin links start marks ahead h e f = subst (λ ms. Worked links start ms ahead) (sym e) (subst (Worked links start (slice_set (replicate (length links) false) start true)) (sym f) begun)
   where
-    none : List Bool
-    none = replicate (length links) false
+    only : (b : ℕ) → IsTrue (mark_at (slice_set (replicate (length links) false) start true) b) → b ≡ start
+    only b m = elim (mark-was (replicate (length links) false) start b m) [ inl e ↦ e | inr t ↦ cc (none-marked (length links) b) ]
 
-    long : length (slice_set (replicate (length links) false) start true) ≡ length links
-    long = Grows-length (replicate (length links) false) (slice_set (replicate (length links) false) start true) (Grows-set (replicate (length links) false) start) ∙ length-none (length links)
+    first : IsTrue (mark_at (slice_set (replicate (length links) false) start true) start)
+    first = set-marks (replicate (length links) false) start (let l = length-none (length links) in omega arith)
 
-    here : (b : ℕ) → IsTrue (mark_at (slice_set (replicate (length links) false) start true) b) → IsAtOrBelow links start b
-    here b m = elim (mark-was (replicate (length links) false) start b m) [ inl e ↦ (0, sym e) | inr t ↦ cc (none-marked (length links) b) ]
-
-    begun : Rounds links start (slice_set (replicate (length links) false) start true) (length links + 1)
+    begun : Worked links start (slice_set (replicate (length links) false) start true) (start ∷ [])
     begun = record {
-      as_long = long;
-      first = set-marks (replicate (length links) false) start (let l = length-none (length links) in omega arith);
-      true_marks = here;
-      settled = λ m. let b = unmarked-bound (slice_set (replicate (length links) false) start true) in absurd (omega (arith, long));
+      as_long = Grows-length (replicate (length links) false) (slice_set (replicate (length links) false) start true) (Grows-set (replicate (length links) false) start) ∙ length-none (length links);
+      first = first;
+      true_marks = λ b m. (0, sym (only b m));
+      ahead_marked = λ b into. elim into [ inl e ↦ subst (λ k. IsTrue (mark_at (slice_set (replicate (length links) false) start true) k)) (sym e) first | inr none ↦ absurd none ];
+      closed = λ b s m into. inl (inl (only b m));
     }
 
-pub Rounds-next : (links : List (List ℕ)) (start : ℕ) (marks : List Bool) (left : ℕ) → Rounds links start marks left
-    → Rounds links start (pass_on links 0 marks) (unmarked marks)
-Rounds-next links start marks left r =
-    let grown = Grows-pass_on links 0 marks in
-    record {
-      as_long = Grows-length marks (pass_on links 0 marks) grown ∙ r.as_long;
-      first = Grows-mark marks (pass_on links 0 marks) start grown r.first;
-      true_marks = pass_on-only (IsAtOrBelow links start) links 0 marks r.true_marks
-          (λ j k at into. let e : 0 + j ≡ j = omega arith in (suc at.0, IsUp-more links at.0 start j k (subst (IsUp links at.0 start) e at.1) into));
-      settled = λ m. ap (pass_on links 0) (same-Grows marks (pass_on links 0 marks) grown m);
-    }
+module _ (links : List (List ℕ)) (start : ℕ) (marks : List Bool) (rest : List ℕ) (p : ℕ) (w : Worked links start marks (rest ++ p ∷ [])) (within : AreWithin links (length links)) where
+  at-p : IsTrue (mark_at marks p)
+  at-p = w.ahead_marked p (into-right p rest (p ∷ []) (inl refl))
 
-pub Rounds-end : (links : List (List ℕ)) (start : ℕ) (marks : List Bool) (left : ℕ) → AreWithin links (length links) → Rounds links start marks left → left ≤ unmarked marks
-    → AreAbove links start marks
-Rounds-end links start marks left w r m = record {
-  as_long = r.as_long;
-  true_marks = r.true_marks;
-  all_marks = λ b at. marks-up links marks (subst (AreWithin links) (sym r.as_long) w) (r.settled m) at.0 start b r.first at.1;
+  pub row-inside : IsWithin (row links p) (length marks)
+  row-inside = subst (IsWithin (row links p)) (sym w.as_long) (row-within links (length links) p within)
+
+  grown : Grows marks (mark_all (row links p) marks)
+  grown = Grows-mark_all (row links p) marks
+
+  pub Worked-next : Worked links start (mark_all (row links p) marks) (rest ++ news (row links p) marks)
+  Worked-next = record {
+    as_long = Grows-length marks (mark_all (row links p) marks) grown ∙ w.as_long;
+    first = Grows-mark marks (mark_all (row links p) marks) start grown w.first;
+    true_marks = mark_all-only (IsAtOrBelow links start) (row links p) marks w.true_marks
+        (λ k into. let at = w.true_marks p at-p in (suc at.0, IsUp-more links at.0 start p k at.1 into));
+    ahead_marked = λ b into. elim (into-either b rest (news (row links p) marks) into) [
+      inl l ↦ Grows-mark marks (mark_all (row links p) marks) b grown (w.ahead_marked b (into-left b rest (p ∷ []) l))
+      | inr n ↦ mark_all-marks (row links p) marks b row-inside (news-in (row links p) marks b n)
+    ];
+    closed = λ b s m into. elim (news-mark (row links p) marks b m) [ inl t ↦ old b s t into | inr n ↦ inl (into-right b rest (news (row links p) marks) n) ];
+  }
+    where
+      last : (b s : ℕ) → IsIn s (row links b) → IsIn b (p ∷ []) → IsTrue (mark_at (mark_all (row links p) marks) s)
+      last b s into (inl e) = mark_all-marks (row links p) marks s row-inside (subst (λ k. IsIn s (row links k)) e into)
+      last b s into (inr none) = absurd none
+
+      still : (b s : ℕ) → IsIn s (row links b) → IsIn b rest ⊎ IsIn b (p ∷ []) → IsIn b (rest ++ news (row links p) marks) ⊎ IsTrue (mark_at (mark_all (row links p) marks) s)
+      still b s into (inl l) = inl (into-left b rest (news (row links p) marks) l)
+      still b s into (inr r) = inr (last b s into r)
+
+      old : (b s : ℕ) → IsTrue (mark_at marks b) → IsIn s (row links b) → IsIn b (rest ++ news (row links p) marks) ⊎ IsTrue (mark_at (mark_all (row links p) marks) s)
+      old b s m into = elim (w.closed b s m into) [ inl a ↦ still b s into (into-either b rest (p ∷ []) a) | inr t ↦ inr (Grows-mark marks (mark_all (row links p) marks) s grown t) ]
+
+  -- each turn leaves less to mark and to look at
+  pub turn-smaller : unmarked (mark_all (row links p) marks) + length (rest ++ news (row links p) marks) < unmarked marks + length (rest ++ p ∷ [])
+  turn-smaller =
+      let same = unmarked-news (row links p) marks row-inside in
+      let here = length-append rest (news (row links p) marks) in
+      let there = length-append rest (p ∷ []) in
+      omega (arith, same, here, there)
+
+marks-up : (links : List (List ℕ)) (start : ℕ) (marks : List Bool) → Worked links start marks [] → (k a b : ℕ) → IsTrue (mark_at marks a) → IsUp links k a b → IsTrue (mark_at marks b)
+marks-up links start marks w zero a b h up = subst (λ k. IsTrue (mark_at marks k)) up h
+marks-up links start marks w (suc k) a b h up = marks-up links start marks w k up.0 b (elim (w.closed a up.0 h up.1) [ inl none ↦ absurd none | inr t ↦ t ]) up.2
+
+pub Worked-end : (links : List (List ℕ)) (start : ℕ) (marks : List Bool) → Worked links start marks [] → AreAbove links start marks
+Worked-end links start marks w = record {
+  as_long = w.as_long;
+  true_marks = w.true_marks;
+  all_marks = λ b at. marks-up links start marks w at.0 start b w.first at.1;
 }

@@ -1,5 +1,5 @@
 -- Places that lead to places: what is at or above what.
-use Rattle.std.specs.Prelude.{◌≡◌, ℕ, zero, suc, ◌+◌, ◌<◌, ◌⊎◌, Bool, true, false, cond, List, [], ◌∷◌, length, get_or, slice_set, IsTrue}
+use Rattle.std.specs.Prelude.{◌≡◌, ℕ, zero, suc, ◌+◌, ◌<◌, ◌⊎◌, Bool, true, false, cond, List, [], ◌∷◌, ◌++◌, length, get_or, slice_set, IsTrue}
 use Rattle.std.specs.List.{list_any}
 
 -- x is an element of the list
@@ -52,14 +52,14 @@ abbrev pub mark_all : List ℕ → List Bool → List Bool
 mark_all [] marks = marks
 mark_all (s ∷ ss) marks = mark_all ss (slice_set marks s true)
 
-abbrev pub mark_all_if : Bool → List ℕ → List Bool → List Bool
-mark_all_if true r marks = mark_all r marks
-mark_all_if false r marks = marks
+-- the place, where it isn't marked yet
+abbrev pub fresh : List Bool → ℕ → List ℕ
+fresh marks s = cond (mark_at marks s) [] (s ∷ [])
 
--- each place from i on that is marked passes its mark on to those that it leads to
-abbrev pub pass_on : List (List ℕ) → ℕ → List Bool → List Bool
-pass_on [] i marks = marks
-pass_on (r ∷ rows) i marks = pass_on rows (i + 1) (mark_all_if (mark_at marks i) r marks)
+-- those of the places that aren't marked yet, each once
+abbrev pub news : List ℕ → List Bool → List ℕ
+news [] marks = []
+news (s ∷ ss) marks = fresh marks s ++ news ss (slice_set marks s true)
 
 -- the marks are on what is at or above a, and on nothing else
 pub record AreAbove (links : List (List ℕ)) (a : ℕ) (marks : List Bool) : Type 0 where

@@ -1,5 +1,5 @@
-ghost use Rattle.std.specs.Prelude.{◌≡◌, ℕ, ◌+◌, ◌<◌, ◌≤◌, ◌^◌, length, replicate, slice_set, IfOk, IsTrue, true, false};
-ghost use Rattle.schema_kinds.specs.Links.{AreWithin, IsWithin, AreAbove, mark_at, mark_all, mark_all_if, pass_on, marked, unmarked};
+ghost use Rattle.std.specs.Prelude.{◌≡◌, ℕ, ◌<◌, ◌≤◌, ◌++◌, length, replicate, slice_set, IfOk, OnOk, IsTrue, true, false};
+ghost use Rattle.schema_kinds.specs.Links.{AreWithin, IsWithin, AreAbove, row, mark_at, mark_all, fresh, news, marked};
 
 use obj_kinds::NoMemory;
 use sqlite_items::Items;
@@ -30,19 +30,6 @@ pub fn is_marked(marks: &[bool], place: usize) -> bool
     }
 }
 
-fn count_unmarked(marks: &[bool]) -> usize
-    ensures value { result ≡ unmarked marks.now }
-    ensures bound { result ≤ length marks.now }
-{
-    match marks.split_first() {
-        None => 0,
-        Some((mark, rest)) => {
-            let count = count_unmarked(rest);
-            if *mark { count } else { count + 1 }
-        }
-    }
-}
-
 /// How many places are marked.
 pub fn count_marked(marks: &[bool]) -> usize
     ensures value { result ≡ marked marks.now }
@@ -57,50 +44,50 @@ pub fn count_marked(marks: &[bool]) -> usize
     }
 }
 
-fn mark_links(links: &[usize], marks: &mut Marks)
-    requires { IsWithin links.now (length marks.old) }
-    ensures marks { marks.new ≡ mark_all links.now marks.old }
-    ensures as_long { length marks.new ≡ length marks.old }
+fn mark_link(link: usize, marks: &mut Marks, ahead: &mut Items<usize>) -> Result<(), NoMemory>
+    requires { link < length marks.old }
+    ensures marks { OnOk result (marks.new ≡ slice_set marks.old link true) }
+    ensures ahead { OnOk result (ahead.new ≡ ahead.old ++ fresh marks.old link) }
 {
-    if let Some((link, rest)) = links.split_first() {
-        marks.set(*link, true);
-        mark_links(rest, marks);
+    if !is_marked(marks.as_slice(), link) {
+        ahead.push(link)?;
+    }
+    marks.set(link, true);
+    Ok(())
+}
+
+fn mark_row(row: &[usize], marks: &mut Marks, ahead: &mut Items<usize>) -> Result<(), NoMemory>
+    requires { IsWithin row.now (length marks.old) }
+    ensures marks { OnOk result (marks.new ≡ mark_all row.now marks.old) }
+    ensures ahead { OnOk result (ahead.new ≡ ahead.old ++ news row.now marks.old) }
+{
+    if let Some((link, rest)) = row.split_first() {
+        mark_link(*link, marks, ahead)?;
+        mark_row(rest, marks, ahead)?;
+    }
+    Ok(())
+}
+
+fn row_at(links: &[Items<usize>], place: usize) -> &[usize]
+    ensures { result.now ≡ row links.now place }
+{
+    match links.get(place) {
+        Some(row) => row.as_slice(),
+        None => &[],
     }
 }
 
-fn mark_links_if(is_from: bool, links: &[usize], marks: &mut Marks)
-    requires { IsWithin links.now (length marks.old) }
-    ensures marks { marks.new ≡ mark_all_if is_from links.now marks.old }
-    ensures as_long { length marks.new ≡ length marks.old }
-{
-    if is_from {
-        mark_links(links, marks);
-    }
-}
-
-fn pass_marks_on(rows: &[Items<usize>], from: usize, marks: &mut Marks)
-    requires within { AreWithin rows.now (length marks.old) }
-    requires room { from + length rows.now < 2 ^ 63 }
-    ensures { marks.new ≡ pass_on rows.now from marks.old }
-{
-    if let Some((row, rest)) = rows.split_first() {
-        let is_from = is_marked(marks.as_slice(), from);
-        mark_links_if(is_from, row.as_slice(), marks);
-        pass_marks_on(rest, from + 1, marks);
-    }
-}
-
-/// Marks what is at or above one place.
+/// Marks what is at or above one place. Each place that is marked is looked at once.
 pub fn marks_above(alloc: Global, links: &[Items<usize>], start: usize) -> Result<Marks, NoMemory>
     requires start { start < length links.now }
     requires within { AreWithin links.now (length links.now) }
     ensures { IfOk result (AreAbove links.now start) }
 {
     let mut marks = one_mark(alloc, links.len(), start)?;
-    let mut left = links.len() + 1;
-    'rounds: while count_unmarked(marks.as_slice()) < left {
-        left = count_unmarked(marks.as_slice());
-        pass_marks_on(links, 0, &mut marks);
+    let mut ahead = Items::new(alloc);
+    ahead.push(start)?;
+    while let Some(place) = ahead.pop() {
+        mark_row(row_at(links, place), &mut marks, &mut ahead)?;
     }
     Ok(marks)
 }
