@@ -1,5 +1,5 @@
 -- Classes, and whole class files.
-use Rattle.std.specs.Prelude.{Bool, true, false, nat_le, None, List, [], ◌∷◌, ◌++◌, length}
+use Rattle.std.specs.Prelude.{Bool, true, false, nat_le, List, [], ◌∷◌, ◌++◌, length}
 use Rattle.obj_kinds.specs.declared.name.ClassName.{ClassName}
 use Rattle.schema_kinds.specs.declared.tree.ClassTree.{ClassTree}
 use Rattle.schema_kinds.specs.declared.tree.PropTree.{PropTree}
@@ -7,16 +7,15 @@ use Rattle.schema_kinds.specs.declared.class.Index.{Index}
 use Rattle.schema_kinds.specs.declared.method.Method.{Method}
 use Rattle.class_tokens.specs.declared.token.Kind.{Kind}
 use Rattle.class_tokens.specs.declared.token.Kind.TheVariants as k
-use Rattle.class_tokens.specs.declared.error.ClassWhy.TheVariants as why
 use Rattle.class_reader.specs.declared.keys.Section.TheVariants as section
 use Rattle.class_reader.specs.declared.classes.Members.{Members}
 use Rattle.text_reading.specs.Tokens.{Bytes}
 use Rattle.text_reading.specs.Parsing.{◌>>=◌, ◌>>◌, ◌<$>◌, pure}
 use Rattle.class_tokens.specs.ClassKinds.{is, is_member_word}
-use Rattle.class_tokens.specs.ClassSteps.{Parser, limit, spelled, either, many, expect}
+use Rattle.class_tokens.specs.ClassSteps.{Parser, spelled, either, many, expect}
 use Rattle.class_reader.specs.ClassNames.{class_name, own_name, whole_name, package_of}
 use Rattle.class_reader.specs.ClassKeywords.{keywords}
-use Rattle.class_reader.specs.ClassValues.{is_comma}
+use Rattle.class_reader.specs.ClassValues.{is_comma, barred_limit}
 use Rattle.class_reader.specs.ClassProperties.{is_paren, opens, property, relation}
 use Rattle.class_reader.specs.ClassMembers.{index, parameter, storage, method}
 
@@ -76,7 +75,7 @@ unchanged m x = m
 
 -- a member that is left out
 unfoldable pub left_out : Bool → Parser Bytes
-left_out wide = spelled wide (is k.LeftOut) (λ t. limit true why.LeftOut t None)
+left_out wide = spelled wide (is k.LeftOut) (barred_limit true)
 
 unfoldable pub last_member : Bool → Members → Parser Members
 last_member wide m = either (is k.Storage) (unchanged m <$> storage wide) (unchanged m <$> left_out wide)

@@ -9,12 +9,15 @@ use Rattle.class_reader.specs.declared.keywords.Key.{Key}
 use Rattle.text_reading.specs.Tokens.{Bytes}
 use Rattle.text_reading.specs.Parsing.{◌>>=◌, ◌>>◌, ◌<$>◌, pure}
 use Rattle.class_tokens.specs.ClassKinds.{is, is_word}
-use Rattle.class_tokens.specs.ClassSteps.{Parser, limit, no_limit, spelled, either, many, expect}
+use Rattle.class_tokens.specs.ClassSteps.{Limit, Parser, limit, no_limit, spelled, either, many, expect}
 use Rattle.class_reader.specs.ClassKeys.{rule_of, is_left_out, noted, nothing_given}
-use Rattle.class_reader.specs.ClassValues.{given_value, is_comma}
+use Rattle.class_reader.specs.ClassValues.{barred_limit, given_value, is_comma}
+
+abbrev pub key_limit : Section → Limit
+key_limit section t = limit (nat_lt 31 (length t.text)) why.NameTooLong t (limit (is_left_out (rule_of section t.text)) why.LeftOut t None)
 
 unfoldable pub key_word : Bool → Section → Parser Bytes
-key_word wide section = spelled wide is_word (λ t. limit (nat_lt 31 (length t.text)) why.NameTooLong t (limit (is_left_out (rule_of section t.text)) why.LeftOut t None))
+key_word wide section = spelled wide is_word (key_limit section)
 
 abbrev pub key : Bool → Bytes → Key
 key negated word = record { negated = negated; word = word }
@@ -42,13 +45,13 @@ keyword wide section given = do
 
 -- A comma, or the closing bracket, behind a keyword; one that lacks its value is left out.
 unfoldable pub key_comma : Bool → Given → Parser Bytes
-key_comma wide given = spelled wide is_comma (λ t. limit given.lacks why.LeftOut t None)
+key_comma wide given = spelled wide is_comma (barred_limit given.lacks)
 
 abbrev pub is_closing_bracket : Kind → Bool
 is_closing_bracket kind = is k.RBracket kind
 
 unfoldable pub key_close : Bool → Given → Parser Bytes
-key_close wide given = spelled wide is_closing_bracket (λ t. limit given.lacks why.LeftOut t None)
+key_close wide given = spelled wide is_closing_bracket (barred_limit given.lacks)
 
 unfoldable pub further_key : Bool → Section → Given → Parser Given
 further_key wide section given = key_comma wide given >> keyword wide section given

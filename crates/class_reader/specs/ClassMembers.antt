@@ -7,7 +7,6 @@ use Rattle.schema_kinds.specs.declared.method.Arg.{Arg}
 use Rattle.schema_kinds.specs.declared.method.Method.{Method}
 use Rattle.class_tokens.specs.declared.token.Kind.{Kind}
 use Rattle.class_tokens.specs.declared.token.Kind.TheVariants as k
-use Rattle.class_tokens.specs.declared.error.ClassWhy.TheVariants as why
 use Rattle.class_reader.specs.declared.keys.Section.TheVariants as section
 use Rattle.class_reader.specs.declared.keys.Rule.TheVariants.{Skipped}
 use Rattle.class_reader.specs.declared.members.Body.{Body}
@@ -16,11 +15,11 @@ use Rattle.text_reading.specs.Tokens.{Bytes}
 use Rattle.text_reading.specs.Places.{place_of}
 use Rattle.text_reading.specs.Parsing.{◌>>=◌, ◌>>◌, ◌<$>◌, pure}
 use Rattle.class_tokens.specs.ClassKinds.{is_name, is_block}
-use Rattle.class_tokens.specs.ClassSteps.{Token, Parser, limit, cut_limit, spelled, pick, either, many, expect}
+use Rattle.class_tokens.specs.ClassSteps.{Token, Parser, cut_limit, spelled, pick, either, many, expect}
 use Rattle.class_reader.specs.ClassNames.{name, fresh, class_name}
 use Rattle.class_reader.specs.ClassKeywords.{keywords}
 use Rattle.class_reader.specs.ClassValues.{is_comma, is_equals, literal, value, block}
-use Rattle.class_reader.specs.ClassProperties.{is_as, is_paren, opens}
+use Rattle.class_reader.specs.ClassProperties.{is_as, is_paren, full_limit, opens}
 
 -- ---- indexes
 
@@ -29,7 +28,7 @@ has_index indexes name = list_any (λ i. bytes_eq i.name name) indexes
 
 -- a comma behind so many, of which there may be a greatest number
 unfoldable pub comma_within : Bool → Bool → Parser Bytes
-comma_within wide full = spelled wide is_comma (λ t. limit full why.TooMany t None)
+comma_within wide full = spelled wide is_comma (full_limit full)
 
 unfoldable pub further_prop : Bool → List Bytes → Parser (List Bytes)
 further_prop wide props = comma_within wide (nat_le 3 (length props)) >> ((λ prop. props ++ prop ∷ []) <$> name wide)

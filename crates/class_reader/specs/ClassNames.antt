@@ -18,8 +18,11 @@ unfoldable pub name : Bool → Parser Bytes
 name wide = spelled wide is_name name_limit
 
 -- a name that isn't taken yet
+abbrev pub fresh_limit : Bool → Limit
+fresh_limit taken t = limit (nat_lt 31 (length t.text)) why.NameTooLong t (limit taken why.RepeatedMember t None)
+
 unfoldable pub fresh_if : Bool → Bool → Parser Bytes
-fresh_if wide taken = spelled wide is_name (λ t. limit (nat_lt 31 (length t.text)) why.NameTooLong t (limit taken why.RepeatedMember t None))
+fresh_if wide taken = spelled wide is_name (fresh_limit taken)
 
 unfoldable pub fresh : Bool → (Bytes → Bool) → Parser Bytes
 fresh wide taken = λ ts. fresh_if wide (taken (head_text ts)) ts
@@ -37,11 +40,17 @@ abbrev pub is_dot : Kind → Bool
 is_dot kind = is k.Dot kind
 
 -- a dot, behind which at least one byte has to fit
+abbrev pub dot_limit : Bool → Bytes → Limit
+dot_limit barred found t = limit (nat_lt 58 (length found)) why.NameTooLong t (limit barred why.LeftOut t None)
+
 unfoldable pub name_dot : Bool → Bool → Bytes → Parser Bytes
-name_dot wide barred found = spelled wide is_dot (λ t. limit (nat_lt 58 (length found)) why.NameTooLong t (limit barred why.LeftOut t None))
+name_dot wide barred found = spelled wide is_dot (dot_limit barred found)
+
+abbrev pub further_limit : Bytes → Limit
+further_limit found t = limit (nat_lt 59 (length found + length t.text)) why.NameTooLong t None
 
 unfoldable pub further_word : Bool → Bytes → Parser Bytes
-further_word wide found = spelled wide is_word (λ t. limit (nat_lt 59 (length found + length t.text)) why.NameTooLong t None)
+further_word wide found = spelled wide is_word (further_limit found)
 
 -- a dot and one more word
 unfoldable pub dotted : Bool → Bool → Bytes → Parser Bytes
@@ -59,8 +68,11 @@ class_name wide = class_word wide >>= name_rest wide false
 abbrev pub is_bare : Kind → Bool
 is_bare kind = is k.Bare kind
 
+abbrev pub own_limit : Limit
+own_limit t = limit (nat_lt 60 (length t.text)) why.NameTooLong t (limit (is_bare t.kind) why.NoPackage t None)
+
 unfoldable pub own_word : Bool → Parser Bytes
-own_word wide = spelled wide is_own_word (λ t. limit (nat_lt 60 (length t.text)) why.NameTooLong t (limit (is_bare t.kind) why.NoPackage t None))
+own_word wide = spelled wide is_own_word own_limit
 
 unfoldable pub own_name : Bool → Parser Bytes
 own_name wide = own_word wide >>= dotted wide false >>= name_rest wide false

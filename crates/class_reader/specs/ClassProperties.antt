@@ -16,7 +16,7 @@ use Rattle.class_reader.specs.declared.properties.Typed.{Typed}
 use Rattle.text_reading.specs.Tokens.{Bytes}
 use Rattle.text_reading.specs.Parsing.{◌>>=◌, ◌>>◌, ◌<$>◌, pure}
 use Rattle.class_tokens.specs.ClassKinds.{is}
-use Rattle.class_tokens.specs.ClassSteps.{Parser, limit, no_limit, spelled, either, expect}
+use Rattle.class_tokens.specs.ClassSteps.{Limit, Parser, limit, no_limit, spelled, either, expect}
 use Rattle.class_reader.specs.ClassNames.{fresh, class_name, name_rest, whole_name}
 use Rattle.class_reader.specs.ClassKeys.{no_bounds}
 use Rattle.class_reader.specs.ClassKeywords.{keywords}
@@ -79,8 +79,11 @@ abbrev pub has_prop : List PropTree → Bytes → Bool
 has_prop props name = list_any (λ p. bytes_eq p.name name) props
 
 -- a member's first word, where one more member has room
+abbrev pub full_limit : Bool → Limit
+full_limit full t = limit full why.TooMany t None
+
 unfoldable pub opens : Bool → Kind → Bool → Parser Bytes
-opens wide kind full = spelled wide (is kind) (λ t. limit full why.TooMany t None)
+opens wide kind full = spelled wide (is kind) (full_limit full)
 
 unfoldable pub prop_of : Bytes → Typed → Given → PropTree
 prop_of name type given = record {

@@ -1,5 +1,5 @@
 -- What the reader of class files answers.
-use Rattle.std.specs.Prelude.{◌≡◌, ℕ, List, Result, Ok, Err, false}
+use Rattle.std.specs.Prelude.{◌≡◌, ◌⊎◌, ℕ, List, Result, Ok, Err, true, false}
 use Rattle.schema_kinds.specs.declared.tree.ClassTree.{ClassTree}
 use Rattle.class_tokens.specs.declared.error.ClassWhy.{ClassWhy}
 use Rattle.class_reader.specs.declared.error.ReadError.{ReadError}
@@ -7,10 +7,11 @@ use Rattle.class_reader.specs.declared.error.ReadError.TheVariants.{BadClass, No
 use Rattle.text_reading.specs.declared.stop.Refusal.{Refusal}
 use Rattle.text_reading.specs.Tokens.{Bytes}
 use Rattle.text_reading.specs.Places.{place_of}
-use Rattle.text_reading.specs.Reading.{whole}
+use Rattle.text_reading.specs.Reading.{IsRefused, whole}
 use Rattle.class_tokens.specs.ClassLex.{file_tokens}
 use Rattle.class_tokens.specs.ClassSteps.{tongue}
 use Rattle.class_reader.specs.ClassFile.{classes}
+use Rattle.class_reader.specs.FileGrammar.{Classes}
 
 -- the classes of a text, or its first refusal
 abbrev pub reading : Bytes → Result (List ClassTree) (Refusal ClassWhy)
@@ -25,3 +26,16 @@ abbrev pub IsRead : Bytes → Result (List ClassTree) ReadError → Type 0
 IsRead text (Ok trees) = reading text ≡ Ok trees
 IsRead text (Err NoMemory) = Unit {0}
 IsRead text (Err (BadClass line column why)) = (r : Refusal ClassWhy) × (reading text ≡ Err r) × IsPlaced text r line column why
+
+-- ---- against the grammar
+
+-- What is answered, against the grammar of class files, over the tokens of the text.
+pub record IsClassFile (text : Bytes) (result : Result (List ClassTree) ReadError) : Type 0 where
+  -- the text is a class file, and these are its classes
+  pub found : (trees : List ClassTree) → result ≡ Ok trees → Classes false text (file_tokens text) trees
+  -- a class file is read, unless memory runs out
+  pub only : (trees : List ClassTree) → Classes false text (file_tokens text) trees → (result ≡ Ok trees) ⊎ (result ≡ Err NoMemory)
+  -- what stands before the place begins a class file, and with the token at the place it begins none; the reason is a
+  -- limit exactly where without the limits it still begins one
+  pub refused : (line column : ℕ) (why : ClassWhy) → result ≡ Err (BadClass line column why)
+      → (r : Refusal ClassWhy) × IsPlaced text r line column why × IsRefused tongue (Classes false text) (Classes true text) (file_tokens text) r

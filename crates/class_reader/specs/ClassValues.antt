@@ -8,7 +8,7 @@ use Rattle.class_reader.specs.declared.keys.Bounds.{Bounds}
 use Rattle.text_reading.specs.Tokens.{Bytes}
 use Rattle.text_reading.specs.Parsing.{◌>>=◌, ◌>>◌, ◌<$>◌, pure}
 use Rattle.class_tokens.specs.ClassKinds.{is, is_word, is_number, is_text, is_block}
-use Rattle.class_tokens.specs.ClassSteps.{Parser, Stopped, limit, cut_limit, spelled, either, many, expect}
+use Rattle.class_tokens.specs.ClassSteps.{Limit, Parser, Stopped, limit, cut_limit, spelled, either, many, expect}
 use Rattle.class_reader.specs.ClassNames.{name_rest}
 use Rattle.class_reader.specs.ClassKeys.{bars_word, bars_block, is_only, is_left_out_bound, no_bounds, bound}
 
@@ -28,17 +28,29 @@ content text = content_from false (drop 1 text)
 
 -- ---- numbers and strings; where they are barred they are left out
 
-abbrev or_later : Option Stopped → Option Stopped → Option Stopped
+abbrev pub or_later : Option Stopped → Option Stopped → Option Stopped
 or_later (Some r) later = Some r
 or_later None later = later
 
+-- left out, where the test holds
+abbrev pub barred_limit : Bool → Limit
+barred_limit barred t = limit barred why.LeftOut t None
+
+abbrev pub number_limit : Bool → Limit
+number_limit barred t = or_later (cut_limit t) (barred_limit barred t)
+
 unfoldable pub number : Bool → Bool → Parser Bytes
-number wide barred = spelled wide is_number (λ t. or_later (cut_limit t) (limit barred why.LeftOut t None))
+number wide barred = spelled wide is_number (number_limit barred)
 
 -- a string that says more than 32,767 bytes passes the limit of a text
+abbrev pub long_limit : Limit
+long_limit t = limit (nat_lt 32767 (length (content t.text))) why.TooMany t None
+
+abbrev pub string_limit : Bool → Limit
+string_limit barred t = limit barred why.LeftOut t (or_later (cut_limit t) (long_limit t))
+
 unfoldable pub raw_string : Bool → Bool → Parser Bytes
-raw_string wide barred =
-    spelled wide is_text (λ t. limit barred why.LeftOut t (or_later (cut_limit t) (limit (nat_lt 32767 (length (content t.text))) why.TooMany t None)))
+raw_string wide barred = spelled wide is_text (string_limit barred)
 
 unfoldable pub string : Bool → Bool → Parser Bytes
 string wide barred = content <$> raw_string wide barred
@@ -47,7 +59,7 @@ abbrev pub is_minus : Kind → Bool
 is_minus kind = is k.Minus kind
 
 unfoldable pub minus : Bool → Bool → Parser Bytes
-minus wide barred = spelled wide is_minus (λ t. limit barred why.LeftOut t None)
+minus wide barred = spelled wide is_minus (barred_limit barred)
 
 -- a number behind `-`
 unfoldable pub negative : Bool → Bool → Parser Bytes
@@ -60,11 +72,17 @@ literal wide barred = either is_number (number wide barred) (either is_text (str
 -- ---- values of keywords
 
 -- a value in brackets, as written
+abbrev pub block_limit : Bool → Limit
+block_limit barred t = limit barred why.LeftOut t (cut_limit t)
+
 unfoldable pub block : Bool → Bool → Parser Bytes
-block wide barred = spelled wide is_block (λ t. limit barred why.LeftOut t (cut_limit t))
+block wide barred = spelled wide is_block (block_limit barred)
+
+abbrev pub value_limit : Rule → Limit
+value_limit rule t = limit (nat_lt 60 (length t.text)) why.NameTooLong t (limit (bars_word rule t.text) why.LeftOut t None)
 
 unfoldable pub value_word : Bool → Rule → Parser Bytes
-value_word wide rule = spelled wide is_word (λ t. limit (nat_lt 60 (length t.text)) why.NameTooLong t (limit (bars_word rule t.text) why.LeftOut t None))
+value_word wide rule = spelled wide is_word (value_limit rule)
 
 unfoldable pub named_value : Bool → Rule → Parser Bytes
 named_value wide rule = value_word wide rule >>= name_rest wide (is_only rule)
@@ -81,8 +99,11 @@ given_value wide rule = either is_equals (expect k.Equals >> (Some <$> value wid
 
 -- ---- parameters of a property
 
+abbrev pub bound_limit : Limit
+bound_limit t = limit (nat_lt 31 (length t.text)) why.NameTooLong t (limit (is_left_out_bound t.text) why.LeftOut t None)
+
 unfoldable pub bound_word : Bool → Parser Bytes
-bound_word wide = spelled wide is_word (λ t. limit (nat_lt 31 (length t.text)) why.NameTooLong t (limit (is_left_out_bound t.text) why.LeftOut t None))
+bound_word wide = spelled wide is_word bound_limit
 
 -- word "=" literal
 unfoldable pub one_bound : Bool → Bounds → Parser Bounds

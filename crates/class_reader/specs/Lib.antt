@@ -5,4 +5,7 @@ pub mod ClassKeywords
 pub mod ClassProperties
 pub mod ClassMembers
 pub mod ClassFile
+pub mod ClassGrammar
+pub mod MemberGrammar
+pub mod FileGrammar
 pub mod ClassReading

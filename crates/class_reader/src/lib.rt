@@ -16,6 +16,8 @@ pub use error::ReadError;
 pub use reading::read_classes;
 
 #[cfg(test)]
+mod ends;
+#[cfg(test)]
 mod refusals;
 #[cfg(test)]
 mod tests;

@@ -5,7 +5,7 @@ ghost use Rattle.text_reading.specs.Reading.{Gives, whole};
 ghost use Rattle.class_tokens.specs.ClassLex.{file_tokens};
 ghost use Rattle.class_tokens.specs.ClassSteps.{tongue};
 ghost use Rattle.class_reader.specs.ClassFile as file;
-ghost use Rattle.class_reader.specs.ClassReading.{IsRead};
+ghost use Rattle.class_reader.specs.ClassReading.{IsRead, IsClassFile};
 
 use crate::classes::classes;
 use crate::error::ReadError;
@@ -28,13 +28,10 @@ fn file_of(alloc: Global, text: &[u8]) -> Result<ClassTrees, ClassStop>
     Ok(found)
 }
 
-/// The classes that a class file declares, in order.
-///
-/// A refusal names the first place from which on the text is in no class file, as a line and a column of bytes, both
-/// from 1, and the reason. The grammar is that of Caché's class files, less what this profile leaves out.
-pub fn read_classes(alloc: Global, text: &[u8]) -> Result<ClassTrees, ReadError>
+/// The classes of the text, or its first refusal with its place.
+fn placed(alloc: Global, text: &[u8]) -> Result<ClassTrees, ReadError>
     requires { length text.now + 1 < 2 ^ 32 }
-    ensures exact { IsRead text.now result }
+    ensures { IsRead text.now result }
 {
     match file_of(alloc, text) {
         Ok(found) => Ok(found),
@@ -48,4 +45,16 @@ pub fn read_classes(alloc: Global, text: &[u8]) -> Result<ClassTrees, ReadError>
             })
         }
     }
+}
+
+/// The classes that a class file declares, in order.
+///
+/// A refusal names the first place from which on the text is in no class file, as a line and a column of bytes, both
+/// from 1, and the reason. The grammar is that of Caché's class files, less what this profile leaves out.
+pub fn read_classes(alloc: Global, text: &[u8]) -> Result<ClassTrees, ReadError>
+    requires { length text.now + 1 < 2 ^ 32 }
+    ensures exact { IsRead text.now result }
+    ensures grammar { IsClassFile text.now result }
+{
+    placed(alloc, text)
 }

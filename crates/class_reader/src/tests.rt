@@ -351,3 +351,39 @@ fn names_within_limits(rt: HostRuntime) {
         .is_some()
     );
 }
+
+/// Whether the text is read, as so many classes.
+fn has_classes(rt: &HostRuntime, text: &[u8], classes: usize) -> bool {
+    match &read(rt, text) {
+        Some(found) => found.len() == classes,
+        None => false,
+    }
+}
+
+/// Further class files, each with the number of its classes.
+const READ: [(&[u8], usize); 5] = [
+    (
+        b"Class Shop.Item Extends %Persistent\n{\nProperty Name As %String;\nProperty Kind As %String;\n}\n",
+        1,
+    ),
+    (
+        b"Class Shop.Order Extends %Persistent\n{\nProperty Ref As %String;\nRelationship Lines As Shop.Line [ Cardinality = children, Inverse = Order ];\n}\nClass Shop.Line Extends %Persistent\n{\nProperty Qty As %Integer;\nRelationship Order As Shop.Order [ Cardinality = parent, Inverse = Lines ];\nIndex QtyIdx On Qty;\n}\n",
+        2,
+    ),
+    (
+        b"Class Gen.Account Extends %Persistent\n{\nProperty Number As %Integer;\nProperty Balance As %Integer;\nProperty Next As Gen.Account;\nIndex NumIdx On Number [ Unique ];\n}\n",
+        1,
+    ),
+    (
+        b"Class A.B { } // the last class has no line feed\r\nClass A.C { }",
+        2,
+    ),
+    (b"Class\rA.B\r{\rProperty\rP\r;\r}\r", 1),
+];
+
+#[test]
+fn files_are_read(rt: HostRuntime) {
+    for (text, classes) in READ {
+        assert!(rt; has_classes(&rt, text, classes), "{classes} classes");
+    }
+}

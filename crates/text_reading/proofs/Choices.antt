@@ -118,11 +118,11 @@ module _ {K W : Type 0} (T : Tongue K W) where
 
   -- ---- the one or the other
 
-  goes_one : {A : Type 0} (goes : K → Bool) (p q : Parser K W A) (ts : Toks K) → goes (head_kind T ts) ≡ true → either T goes p q ts ≡ p ts
+  pub goes_one : {A : Type 0} (goes : K → Bool) (p q : Parser K W A) (ts : Toks K) → goes (head_kind T ts) ≡ true → either T goes p q ts ≡ p ts
   unfolding either
   goes_one goes p q ts h = rw h refl
 
-  goes_other : {A : Type 0} (goes : K → Bool) (p q : Parser K W A) (ts : Toks K) → goes (head_kind T ts) ≡ false → either T goes p q ts ≡ q ts
+  pub goes_other : {A : Type 0} (goes : K → Bool) (p q : Parser K W A) (ts : Toks K) → goes (head_kind T ts) ≡ false → either T goes p q ts ≡ q ts
   unfolding either
   goes_other goes p q ts h = rw h refl
 

@@ -51,3 +51,21 @@ pub data Many {K A : Type 0} (Step : A → Lang K A) : A → Toks K → A → Ty
 -- a phrase or nothing
 abbrev pub Optional : {K A : Type 0} → Lang K A → Lang K (Option A)
 Optional P ts o = ((ts ≡ []) × (o ≡ None)) ⊎ Says Some P ts o
+
+-- ---- the same in the words of `do`
+
+infixl 10 ◌>>=◌
+abbrev pub ◌>>=◌ : {K A B : Type 0} → Lang K A → (A → Lang K B) → Lang K B
+P >>= Q = Then P Q
+
+infixl 10 ◌>>◌
+abbrev pub ◌>>◌ : {K A B : Type 0} → Lang K A → Lang K B → Lang K B
+P >> Q = Then P (λ _. Q)
+
+infixr 11 ◌<$>◌
+abbrev pub ◌<$>◌ : {K A B : Type 0} → (A → B) → Lang K A → Lang K B
+f <$> P = Says f P
+
+-- no tokens, which say x
+abbrev pub pure : {K A : Type 0} → A → Lang K A
+pure x = Empty x
