@@ -17,10 +17,10 @@ use Rattle.store_core.specs.declared.entry.Entry.{Entry}
 use Rattle.store_core.specs.Machine.{State, turn, after, is_live, levels_at, opening}
 use Rattle.store_core.specs.History.{IsLegal, IsLegalWithin, state_after}
 use Rattle.store_core.specs.Volume.{volume, entry_volume}
-use Rattle.store_core.specs.Live.{ends, live_count}
+use Rattle.store_core.specs.Live.{is_end, ends, live_count}
 use Rattle.store_core.specs.Ledger.{Ledger, opened, state_of, next_entry, end_entry, with_entry, IsSound, ran, AreAccepted, after_all, entries_of}
 use Rattle.store_core.proofs.HistoryLaws.{legal_step, state_more, volume_more}
-use Rattle.store_core.proofs.LiveLaws.{own_after, other_after, ends_counted, opening_within, opening_count, live_has_place}
+use Rattle.store_core.proofs.LiveLaws.{own_after, other_after, stays_live, ends_counted, opening_within, opening_count, live_has_place}
 use Rattle.store_core.proofs.StoreLaws.{reply_end}
 
 -- THE END OF A PROCESS
@@ -112,3 +112,20 @@ volume_of_both (e ∷ es) fs = let h = volume_of_both es fs in omega arith
 
 pub beginning_legal : (v : ℕ) (s : State) (es fs : List Entry) → IsLegalWithin v s (es ++ fs) → IsLegalWithin v s es
 beginning_legal v s es fs within = (beginning s es fs within.0, let h = volume_of_both es fs in let w = within.1 in omega (arith, h, w))
+
+-- WHO IS LIVE AFTER AN ENTRY
+
+pub lives_with : (l m : Ledger) (p : Pid) (op : Op) → m ≡ with_entry l (next_entry l p op) → is_live (state_of l) p ≡ true → is_end op ≡ false → (q : Pid) → is_live (state_of m) q ≡ is_live (state_of l) q
+lives_with l m p op e live stays q =
+    ap (λ x. is_live (state_of x) q) e
+    ∙ ap (λ s. is_live s q) (state_with l (next_entry l p op))
+    ∙ stays_live (state_of l) p op live stays q.0
+
+pub lives_after_end : (l m : Ledger) (p : Pid) → m ≡ with_entry l (end_entry p) → (q : Pid) → q.0 ≢ p.0 → is_live (state_of m) q ≡ is_live (state_of l) q
+lives_after_end l m p e q ne =
+    ap (λ x. is_live (state_of x) q) e
+    ∙ ap (λ s. is_live s q) (state_with l (end_entry p))
+    ∙ other_after (state_of l) p End q.0 ne
+
+pub ended_with : (l m : Ledger) (p : Pid) → m ≡ with_entry l (end_entry p) → is_live (state_of m) p ≡ false
+ended_with l m p e = ap (λ x. is_live (state_of x) p) e ∙ ap (λ s. is_live s p) (state_with l (end_entry p)) ∙ end_live (state_of l) p

@@ -36,7 +36,7 @@ pub ends_more : (es : List Entry) (e : Entry) → ends (es ++ e ∷ []) ≡ ends
 ends_more [] e = omega arith
 ends_more (x ∷ xs) e = let h = ends_more xs e in omega arith
 
-not_end : (op : Op) → op ≢ End → is_end op ≡ false
+pub not_end : (op : Op) → op ≢ End → is_end op ≡ false
 not_end End ne = absurd (ne refl)
 not_end _ ne = refl
 
@@ -235,3 +235,10 @@ tied_live s g hs logs p is low there =
     by : (o : Option Levels) → o ≢ None → is_some o ≡ true
     by None ne = absurd (ne refl)
     by (Some ls) ne = refl
+
+-- the ledger after the end of a process
+pub ended_is : (nodes : Pairs) (logs logs' : Logs) (es es' : List Entry) (room : ℕ) (l : Ledger) → ledger nodes logs es room ≡ l → (p : Pid) → length logs' ≡ length logs → es' ≡ es ++ end_entry p ∷ []
+    → ledger nodes logs' es' room ≡ with_entry l (end_entry p)
+ended_is nodes logs logs' es es' room l e p len more =
+    ap (λ x. ledger nodes logs' x room) more
+    ∙ with_is nodes logs logs' es room room l e (end_entry p) len (let v = volume_end p in omega (arith, v))

@@ -1,6 +1,7 @@
 ghost use Rattle.std.specs.Prelude.{◌≡◌, ◌≢◌, ◌+◌, ◌≤◌, ◌<◌, true, false, not, [], ◌∷◌, ◌++◌, IsTrue, IfOk, OnOk, OnErr, Err, None, is_some, slice_index_or};
 ghost use Rattle.std.specs.FinMap.{is_sorted};
 ghost use Rattle.obj_kinds.specs.Order.{node_cmp};
+ghost use Rattle.obj_kinds.specs.declared.op.Pid.{Pid};
 ghost use Rattle.obj_kinds.specs.declared.op.Op.TheVariants.{End};
 ghost use Rattle.obj_kinds.specs.declared.op.Reply.TheVariants.{Done};
 ghost use Rattle.store_core.specs.declared.refusal.ApplyError.TheVariants.{Volume};
@@ -82,6 +83,7 @@ impl Store {
         ensures reply { IfOk result (λ r. r ≡ answer_to (state_of self.old) pid op) }
         ensures entry { OnOk result (self.new ≡ with_entry self.old (next_entry self.old pid op)) }
         ensures fits { OnOk result (volume_with self.old (next_entry self.old pid op) ≤ self.old.limit) }
+        ensures live { OnOk result ((p : Pid) → lives (state_of self.new) p ≡ lives (state_of self.old) p) }
         ensures volume { result ≡ Err Volume → self.old.limit < volume_with self.old (next_entry self.old pid op) }
         ensures err { OnErr result (self.new ≡ self.old) }
     {
@@ -111,6 +113,7 @@ impl Store {
         ensures reply { result ≡ Done }
         ensures entry { self.new ≡ with_entry self.old (end_entry pid) }
         ensures ended { lives (state_of self.new) pid ≡ false }
+        ensures others { (p : Pid) → p.0 ≢ pid.0 → lives (state_of self.new) p ≡ lives (state_of self.old) p }
     {
         end_turn(&mut self.tree, &mut self.locks, &mut self.logs, pid);
         self.told.push_reserved(Entry {

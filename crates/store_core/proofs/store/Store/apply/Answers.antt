@@ -4,7 +4,8 @@ use Rattle.store_core.specs.declared.refusal.ApplyError.TheVariants.{Volume}
 use Rattle.store_core.specs.Machine.{reply}
 use Rattle.store_core.specs.Stands.{IsStore}
 use Rattle.store_core.proofs.Outcomes.{err_is}
-use Rattle.store_core.proofs.StoreLaws.{stands, ledger, state_is, live_log, live_within, counts_low, was_live, refused, Paid, told_entry, told_step, told_is, told_fits, refused_passes}
+use Rattle.store_core.proofs.LedgerLaws.{lives_with}
+use Rattle.store_core.proofs.StoreLaws.{not_end, stands, ledger, state_is, live_log, live_within, counts_low, was_live, refused, Paid, told_entry, told_step, told_is, told_fits, refused_passes}
 use Rattle.store_core.proofs.store.Store.apply.Goals as goal
 
 pub take_turn-requires-clause-pid : goal.take_turn-requires-clause-pid
@@ -85,3 +86,19 @@ returns-clause-fits c =
       pays = c.in_ok-answer.ensures.left now c.self.invariant.tied;
     } in
     told_fits s.nodes s.logs.items s.told.items paid c.args.self.now c.self.view_is
+
+pub returns-clause-live : goal.returns-clause-live
+returns-clause-live c =
+    let s = c.self.inside in
+    let a = c.in_ok-answer.answer in
+    let now = stands s.nodes s.logs.items s.told.items in
+    let paid : Paid now c.args.pid c.args.op a.kept s.room a.left = record {
+      no_end = c.requires.no_end;
+      reply_is = c.in_ok-answer.ensures.kept now c.self.invariant.tied;
+      pays = c.in_ok-answer.ensures.left now c.self.invariant.tied;
+    } in
+    let len : length c.take_turn.new.logs.items ≡ length s.logs.items = omega (arith, c.take_turn.ensures.pids) in
+    lives_with c.args.self.now _ c.args.pid c.args.op
+    (ap (λ es. ledger s.nodes c.take_turn.new.logs.items es a.left) (c.push_reserved.ensures.items ∙ ap (λ es. es ++ told_entry c.args.pid c.args.op a.kept ∷ []) c.take_turn.ensures.items)
+        ∙ told_is s.nodes s.logs.items s.told.items paid c.take_turn.new.logs.items c.args.self.now c.self.view_is len)
+    c.requires.live (not_end c.args.op c.requires.no_end)

@@ -3,8 +3,8 @@ use Rattle.std.specs.Vec.{vec_capacity}
 use Rattle.store_core.specs.Machine.{is_live}
 use Rattle.store_core.specs.Ledger.{state_of, end_entry}
 use Rattle.store_core.specs.Stands.{IsStore}
-use Rattle.store_core.proofs.LedgerLaws.{end_live, state_with}
-use Rattle.store_core.proofs.StoreLaws.{ledger, live_log, live_within, live_end, was_live, with_is, ended_step, volume_end}
+use Rattle.store_core.proofs.LedgerLaws.{ended_with, lives_after_end}
+use Rattle.store_core.proofs.StoreLaws.{ledger, live_log, live_within, live_end, was_live, ended_step, ended_is}
 use Rattle.store_core.proofs.store.Store.apply_end.Goals as goal
 
 pub end_turn-requires-clause-pid : goal.end_turn-requires-clause-pid
@@ -37,16 +37,18 @@ pub returns-clause-entry : goal.returns-clause-entry
 returns-clause-entry c =
     let s = c.self.inside in
     let len : length c.end_turn.new.logs.items ≡ length s.logs.items = omega (arith, c.end_turn.ensures.pids) in
-    ap (λ es. ledger s.nodes c.end_turn.new.logs.items es s.room) c.push_reserved.ensures.items
-    ∙ with_is s.nodes s.logs.items c.end_turn.new.logs.items s.told.items s.room s.room c.args.self.now c.self.view_is (end_entry c.args.pid) len (omega (arith, volume_end c.args.pid))
+    ended_is s.nodes s.logs.items c.end_turn.new.logs.items s.told.items c.push_reserved.new.self.items s.room c.args.self.now c.self.view_is c.args.pid len c.push_reserved.ensures.items
 
 pub returns-clause-ended : goal.returns-clause-ended
 returns-clause-ended c =
     let s = c.self.inside in
     let len : length c.end_turn.new.logs.items ≡ length s.logs.items = omega (arith, c.end_turn.ensures.pids) in
-    let entry =
-    ap (λ es. ledger s.nodes c.end_turn.new.logs.items es s.room) c.push_reserved.ensures.items
-    ∙ with_is s.nodes s.logs.items c.end_turn.new.logs.items s.told.items s.room s.room c.args.self.now c.self.view_is (end_entry c.args.pid) len (omega (arith, volume_end c.args.pid)) in
-    ap (λ l. is_live (state_of l) c.args.pid) entry
-    ∙ ap (λ x. is_live x c.args.pid) (state_with c.args.self.now (end_entry c.args.pid))
-    ∙ end_live (state_of c.args.self.now) c.args.pid
+    ended_with c.args.self.now _ c.args.pid
+    (ended_is s.nodes s.logs.items c.end_turn.new.logs.items s.told.items c.push_reserved.new.self.items s.room c.args.self.now c.self.view_is c.args.pid len c.push_reserved.ensures.items)
+
+pub returns-clause-others : goal.returns-clause-others
+returns-clause-others c =
+    let s = c.self.inside in
+    let len : length c.end_turn.new.logs.items ≡ length s.logs.items = omega (arith, c.end_turn.ensures.pids) in
+    lives_after_end c.args.self.now _ c.args.pid
+    (ended_is s.nodes s.logs.items c.end_turn.new.logs.items s.told.items c.push_reserved.new.self.items s.room c.args.self.now c.self.view_is c.args.pid len c.push_reserved.ensures.items)
