@@ -100,5 +100,5 @@ returns-clause-live c =
     let len : length c.take_turn.new.logs.items ≡ length s.logs.items = omega (arith, c.take_turn.ensures.pids) in
     lives_with c.args.self.now _ c.args.pid c.args.op
     (ap (λ es. ledger s.nodes c.take_turn.new.logs.items es a.left) (c.push_reserved.ensures.items ∙ ap (λ es. es ++ told_entry c.args.pid c.args.op a.kept ∷ []) c.take_turn.ensures.items)
-        ∙ told_is s.nodes s.logs.items s.told.items paid c.take_turn.new.logs.items c.args.self.now c.self.view_is len)
+    ∙ told_is s.nodes s.logs.items s.told.items paid c.take_turn.new.logs.items c.args.self.now c.self.view_is len)
     c.requires.live (not_end c.args.op c.requires.no_end)

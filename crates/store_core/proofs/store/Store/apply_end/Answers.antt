@@ -1,10 +1,9 @@
-use Rattle.std.proofs.Common.{◌≡◌, ◌∷◌, [], ◌++◌, length, sym, ap, ◌∙◌, arith, subst}
+use Rattle.std.proofs.Common.{◌≡◌, ◌∷◌, [], ◌++◌, length, sym, arith, subst}
 use Rattle.std.specs.Vec.{vec_capacity}
-use Rattle.store_core.specs.Machine.{is_live}
-use Rattle.store_core.specs.Ledger.{state_of, end_entry}
+use Rattle.store_core.specs.Ledger.{end_entry}
 use Rattle.store_core.specs.Stands.{IsStore}
 use Rattle.store_core.proofs.LedgerLaws.{ended_with, lives_after_end}
-use Rattle.store_core.proofs.StoreLaws.{ledger, live_log, live_within, live_end, was_live, ended_step, ended_is}
+use Rattle.store_core.proofs.StoreLaws.{live_log, live_within, live_end, was_live, ended_step, ended_is}
 use Rattle.store_core.proofs.store.Store.apply_end.Goals as goal
 
 pub end_turn-requires-clause-pid : goal.end_turn-requires-clause-pid
