@@ -30,8 +30,8 @@ known_super : (home : Bytes) → Known (λ wide. OneSuper wide home) is_word fal
 unfolding OneSuper one_super
 known_super home = piece_says tongue (class_in home) known_class_name
 
-known_further_super : (home : Bytes) (found : List ClassName) → Known
-    (λ wide. FurtherSuper wide home found) is_comma false behind_name (λ wide. further_super wide home found)
+known_further_super : (home : Bytes) (found : List ClassName)
+    → Known (λ wide. FurtherSuper wide home found) is_comma false behind_name (λ wide. further_super wide home found)
 unfolding FurtherSuper further_super same_kind is_word is_name
 known_further_super home found = piece_then tongue all_kinds (piece_expect tongue k.Comma refl)
     (λ _. piece_says tongue (λ name. found ++ name ∷ []) (known_super home)) refl
@@ -89,8 +89,8 @@ known_later_member text m =
     (piece_says tongue (with_methods m) (known_method text k.ClassMethod true m.methods refl))
     (known_last_member m) refl) refl
 
-known_member : (text home : Bytes) (m : Members) → Known
-    (λ wide. Member wide text home m) is_member_word false always (λ wide. member wide text home m)
+known_member : (text home : Bytes) (m : Members)
+    → Known (λ wide. Member wide text home m) is_member_word false always (λ wide. member wide text home m)
 unfolding Member member index_member same_kind
 known_member text home m =
     piece_fit tongue all_kinds
@@ -104,8 +104,8 @@ known_member text home m =
 
 -- ---- classes
 
-known_class : (text : Bytes) (classes : List ClassTree) → Known
-    (λ wide. OneClass wide text classes) is_class false always (λ wide. one_class wide text classes)
+known_class : (text : Bytes) (classes : List ClassTree)
+    → Known (λ wide. OneClass wide text classes) is_class false always (λ wide. one_class wide text classes)
 unfolding OneClass one_class members same_kind is_own_word is_word is_name
 known_class text classes =
     piece_then tongue all_kinds (known_opens k.Class (nat_le 500 (length classes)) refl)

@@ -103,13 +103,13 @@ array_same : (wide : Bool) (ts : Tokens) → is_list (head_kind ts) ≡ false �
 array_same wide ts e = elim (bool_cases (is_array (head_kind ts))) [
   | inl here ↦
       let q = collection wide k.Array form.Array in
-      goes_one tongue is_array q (type_name form.Single <$> other_name wide) ts here ∙ sym
-      (goes_one tongue is_array q (type_name form.Single <$> class_name wide) ts here)
+      goes_one tongue is_array q (type_name form.Single <$> other_name wide) ts here
+      ∙ sym (goes_one tongue is_array q (type_name form.Single <$> class_name wide) ts here)
   | inr gone ↦
       let q = collection wide k.Array form.Array in
       let same = name_same wide ts (none_of (is_list (head_kind ts)) (is_array (head_kind ts)) e gone) in
-      goes_other tongue is_array q (type_name form.Single <$> other_name wide) ts gone ∙ ap
-      (λ o. and_then o (λ x. pure (type_name form.Single x))) same
+      goes_other tongue is_array q (type_name form.Single <$> other_name wide) ts gone
+      ∙ ap (λ o. and_then o (λ x. pure (type_name form.Single x))) same
       ∙ sym (goes_other tongue is_array q (type_name form.Single <$> class_name wide) ts gone)
 ]
 

@@ -2,6 +2,7 @@
 use Rattle.std.proofs.Common.{◌≡◌, ◌+◌, Bool, true, false, not, ◌&&◌, ◌||◌, [], ◌∷◌, ◌++◌, length, Option, Some, None, inl, inr, refl, ap, subst, ◌∙◌}
 use Rattle.std.specs.Prelude.{nat_lt}
 use Rattle.text_reading.specs.Tokens.{Bytes, at_left}
+use Rattle.text_reading.specs.Grammar.{none_free, all_free, free_from}
 use Rattle.text_reading.specs.Parsing.{and_then, pure, ◌<$>◌, ◌>>=◌}
 use Rattle.text_reading.specs.Parsing as p
 use Rattle.text_reading.proofs.Theory.{always}
@@ -20,13 +21,14 @@ use Rattle.class_reader.specs.ClassNames.{name_limit, name, fresh_limit, fresh_i
 use Rattle.class_reader.specs.ClassValues.{content, barred_limit, or_later, number_limit, number, long_limit, string_limit, raw_string, string, is_minus, minus, negative, literal, block_limit, block, value_limit, value_word, named_value, value, is_equals, given_value, is_comma}
 use Rattle.class_reader.specs.ClassKeys.{is_only, bars_word, bars_block, is_left_out, rule_of, noted, nothing_given}
 use Rattle.class_reader.specs.ClassKeywords.{key_limit, key_word, key, is_not, not_word, negated_key, one_key, keyword, key_comma, is_closing_bracket, key_close, further_key, more_keys, bracketed_keys, is_bracket, keywords}
-use Rattle.class_reader.specs.ClassGrammar.{Phrase, Spelled, word_but, Name, Fresh, Dotted, NameRest, NameOf, DottedName, OwnName, Number, String, Negative, Literal, Block, NamedValue, Value, GivenValue, KeyWord, NegatedKey, OneKey, Keyword, FurtherKey, BracketedKeys, Keywords}
+use Rattle.class_reader.specs.ClassGrammar.{Phrase, Free, Spelled, word_but, Name, Fresh, Dotted, NameRest, NameOf, DottedName, OwnName, Number, String, Negative, Literal, Block, NamedValue, Value, GivenValue, KeyWord, NegatedKey, OneKey, Keyword, FurtherKey, BracketedKeys, Keywords}
 use Rattle.class_reader.proofs.AllKinds.{all_kinds}
 
 -- the phrases that begin so are read right before such kinds
-abbrev pub Known : {A : Type 0} → (Bool → Phrase A) → (Kind → Bool) → Bool → (Kind → Bool) → (Bool → Parser A)
+abbrev pub Known : {A : Type 0} → (Free → Phrase A) → (Kind → Bool) → Bool → (Kind → Bool) → (Bool → Parser A)
     → Type 0
-Known L first empty S p = Piece tongue (L false) (L true) first empty S (p false) (p true)
+Known L first empty S p =
+    Piece tongue (L none_free) (λ n. L (free_from n)) (L all_free) first empty S (p false) (p true)
 
 -- ---- each limit is a fault of its token
 
@@ -42,8 +44,8 @@ limit_faulty true reason t later ts r f e = let is : at_left reason t.left ≡ r
 limit_faulty false reason t later ts r f e = f e
 
 pub or_faulty : (o later : Option Stopped) (t : Token) (ts : Tokens) (r : Stopped)
-    → (o ≡ Some r → IsFault (t ∷ ts) r) → (later ≡ Some r → IsFault (t ∷ ts) r) → or_later o later ≡ Some r → IsFault
-    (t ∷ ts) r
+    → (o ≡ Some r → IsFault (t ∷ ts) r) → (later ≡ Some r → IsFault (t ∷ ts) r) → or_later o later ≡ Some r
+    → IsFault (t ∷ ts) r
 or_faulty None later t ts r f g e = g e
 or_faulty (Some s) later t ts r f g e = f e
 
@@ -55,8 +57,8 @@ pub one_faulty : (holds : Token → Bool) (reason : ClassWhy) → Faulty (λ t. 
 one_faulty holds reason t ts r = limit_faulty (holds t) reason t None ts r (none_faulty t ts r)
 
 -- two tests
-pub two_faulty : (holds holds' : Token → Bool) (reason reason' : ClassWhy) → Faulty
-    (λ t. limit (holds t) reason t (limit (holds' t) reason' t None))
+pub two_faulty : (holds holds' : Token → Bool) (reason reason' : ClassWhy)
+    → Faulty (λ t. limit (holds t) reason t (limit (holds' t) reason' t None))
 two_faulty holds holds' reason reason' t ts r = limit_faulty (holds t) reason t
     (limit (holds' t) reason' t None) ts r (one_faulty holds' reason' t ts r)
 
@@ -120,8 +122,8 @@ pub known_rest : (barred : Bool) (found : Bytes) → Known (λ wide. NameRest wi
 unfolding NameRest name_rest same_kind
 known_rest barred found = piece_many tongue all_kinds is_dot (known_dotted barred) refl refl found
 
-pub known_name_of : (can : Kind → Bool) → can k.End ≡ false → (kind : Kind) → can kind ≡ true → Known
-    (NameOf can) can false behind_name (λ wide. spelled wide can class_word_limit >>= name_rest wide false)
+pub known_name_of : (can : Kind → Bool) → can k.End ≡ false → (kind : Kind) → can kind ≡ true
+    → Known (NameOf can) can false behind_name (λ wide. spelled wide can class_word_limit >>= name_rest wide false)
 unfolding NameOf same_kind
 known_name_of can ends kind is = piece_then tongue all_kinds
     (known_spelled can class_word_limit ends (one_faulty (λ t. nat_lt 60 (length t.text)) why.NameTooLong) kind is)
@@ -251,16 +253,16 @@ known_one_key section =
     (key false <$> key_word false section) (key false <$> key_word true section) (key_same false section)
     (key_same true section)) refl
 
-pub known_keyword : (section : Section) (given : Given) → Known
-    (λ wide. Keyword wide section given) is_word false ends_key (λ wide. keyword wide section given)
+pub known_keyword : (section : Section) (given : Given)
+    → Known (λ wide. Keyword wide section given) is_word false ends_key (λ wide. keyword wide section given)
 unfolding Keyword keyword same_kind is_word is_name
 known_keyword section given =
     piece_then tongue all_kinds (known_one_key section)
     (λ found. piece_says tongue (λ value. noted section found.negated found.word value given)
     (known_given_value (rule_of section found.word))) refl
 
-known_further_key : (section : Section) (given : Given) → Known
-    (λ wide. FurtherKey wide section given) is_comma false ends_key (λ wide. further_key wide section given)
+known_further_key : (section : Section) (given : Given)
+    → Known (λ wide. FurtherKey wide section given) is_comma false ends_key (λ wide. further_key wide section given)
 unfolding FurtherKey further_key key_comma same_kind is_word is_name
 known_further_key section given = piece_then tongue all_kinds
     (known_spelled is_comma (barred_limit given.lacks) refl (barred_faulty given.lacks) k.Comma refl)

@@ -7,6 +7,7 @@ use Rattle.class_reader.specs.declared.error.ReadError.TheVariants.{BadClass, No
 use Rattle.text_reading.specs.declared.stop.Refusal.{Refusal}
 use Rattle.text_reading.specs.Tokens.{Bytes}
 use Rattle.text_reading.specs.Places.{place_of}
+use Rattle.text_reading.specs.Grammar.{none_free, all_free, free_from}
 use Rattle.text_reading.specs.Reading.{IsRefused, whole}
 use Rattle.class_tokens.specs.ClassLex.{file_tokens}
 use Rattle.class_tokens.specs.ClassSteps.{tongue}
@@ -32,10 +33,11 @@ IsRead text (Err (BadClass line column why)) = (r : Refusal ClassWhy) × (readin
 -- What is answered, against the grammar of class files, over the tokens of the text.
 pub record IsClassFile (text : Bytes) (result : Result (List ClassTree) ReadError) : Type 0 where
   -- the text is a class file, and these are its classes
-  pub found : (trees : List ClassTree) → result ≡ Ok trees → Classes false text (file_tokens text) trees
+  pub found : (trees : List ClassTree) → result ≡ Ok trees → Classes none_free text (file_tokens text) trees
   -- a class file is read, unless memory runs out
-  pub only : (trees : List ClassTree) → Classes false text (file_tokens text) trees → (result ≡ Ok trees) ⊎ (result ≡ Err NoMemory)
-  -- what stands before the place begins a class file, and with the token at the place it begins none; the reason is a
-  -- limit exactly where without the limits it still begins one
+  pub only : (trees : List ClassTree) → Classes none_free text (file_tokens text) trees → (result ≡ Ok trees) ⊎ (result ≡ Err NoMemory)
+  -- what stands before the place begins a class file in which its tokens pass no limit, and with the token at the place
+  -- it begins none; the reason is a limit exactly where it still begins one if no limit counts
   pub refused : (line column : ℕ) (why : ClassWhy) → result ≡ Err (BadClass line column why)
-      → (r : Refusal ClassWhy) × IsPlaced text r line column why × IsRefused tongue (Classes false text) (Classes true text) (file_tokens text) r
+      → (r : Refusal ClassWhy) × IsPlaced text r line column why × IsRefused tongue (Classes none_free text) (λ n. Classes (free_from n) text) (Classes all_free text)
+          (file_tokens text) r

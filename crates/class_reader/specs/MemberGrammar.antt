@@ -24,180 +24,180 @@ use Rattle.class_reader.specs.ClassKeys.{no_bounds, bound}
 use Rattle.class_reader.specs.ClassValues.{bound_limit, is_comma}
 use Rattle.class_reader.specs.ClassProperties.{type_name, is_list, is_array, text_type, has_prop, full_limit, prop_of, relation_of}
 use Rattle.class_reader.specs.ClassMembers.{has_index, nothing, has_method, body_of, method_of}
-use Rattle.class_reader.specs.ClassGrammar.{Phrase, Spelled, word_but, Name, Fresh, NameRest, NameOf, DottedName, Literal, Block, Value, Keywords}
+use Rattle.class_reader.specs.ClassGrammar.{Phrase, Free, Spelled, word_but, Name, Fresh, NameRest, NameOf, DottedName, Literal, Block, Value, Keywords}
 
 -- ---- types
 
 -- word "=" literal, behind other parameters of a property
-unfoldable pub OneBound : Bool → Bounds → Phrase Bounds
-OneBound wide b = do
-  word ← Spelled wide is_word bound_limit
+unfoldable pub OneBound : Free → Bounds → Phrase Bounds
+OneBound free b = do
+  word ← Spelled free is_word bound_limit
   Mark k.Equals
-  value ← Literal wide false
+  value ← Literal free false
   pure (bound word value b)
 
 -- "," word "=" literal
-unfoldable pub FurtherBound : Bool → Bounds → Phrase Bounds
-FurtherBound wide b = Mark k.Comma >> OneBound wide b
+unfoldable pub FurtherBound : Free → Bounds → Phrase Bounds
+FurtherBound free b = Mark k.Comma >> OneBound free b
 
 -- "(" parameter { "," parameter } ")"
-unfoldable pub BoundList : Bool → Phrase Bounds
-BoundList wide = do
+unfoldable pub BoundList : Free → Phrase Bounds
+BoundList free = do
   Mark k.LParen
-  first ← OneBound wide no_bounds
-  all ← Many (FurtherBound wide) first
+  first ← OneBound free no_bounds
+  all ← Many (FurtherBound free) first
   Mark k.RParen
   pure all
 
 -- ( "list" | "array" ) "Of" class, or a class whose name begins with this word
-unfoldable pub Collection : Bool → Kind → Form → Phrase TypeName
-Collection wide kind f =
-    Spelled wide (is kind) no_limit >>= (λ word. Or (Mark k.Of >> type_name f <$> DottedName wide) (type_name form.Single <$> NameRest wide false word))
+unfoldable pub Collection : Free → Kind → Form → Phrase TypeName
+Collection free kind f =
+    Spelled free (is kind) no_limit >>= (λ word. Or (Mark k.Of >> type_name f <$> DottedName free) (type_name form.Single <$> NameRest free false word))
 
 abbrev pub is_collection : Kind → Bool
 is_collection kind = is_list kind || is_array kind
 
 -- [ ( "list" | "array" ) "Of" ] class
-unfoldable pub Formed : Bool → Phrase TypeName
-Formed wide = Or (Collection wide k.List form.List) (Or (Collection wide k.Array form.Array) (type_name form.Single <$> NameOf (word_but is_collection) wide))
+unfoldable pub Formed : Free → Phrase TypeName
+Formed free = Or (Collection free k.List form.List) (Or (Collection free k.Array form.Array) (type_name form.Single <$> NameOf (word_but is_collection) free))
 
 -- "As" type [ parameters ], in a class of the package
-unfoldable pub WrittenType : Bool → Bytes → Phrase Typed
-WrittenType wide home = do
+unfoldable pub WrittenType : Free → Bytes → Phrase Typed
+WrittenType free home = do
   Mark k.As
-  written ← Formed wide
-  given ← Or (BoundList wide) (pure no_bounds)
+  written ← Formed free
+  given ← Or (BoundList free) (pure no_bounds)
   pure (record { form = written.form; of = record { 0 = whole_name home written.name }; bounds = given })
 
 -- [ "As" type [ parameters ] ]; a type that isn't written is `%String`
-unfoldable pub TypeGiven : Bool → Bytes → Phrase Typed
-TypeGiven wide home = Or (WrittenType wide home) (pure text_type)
+unfoldable pub TypeGiven : Free → Bytes → Phrase Typed
+TypeGiven free home = Or (WrittenType free home) (pure text_type)
 
 -- ---- properties and relationships, behind those that were found
 
 -- a word of this kind, where one more has room
-unfoldable pub Opens : Bool → Kind → Bool → Phrase Bytes
-Opens wide kind full = Spelled wide (is kind) (full_limit full)
+unfoldable pub Opens : Free → Kind → Bool → Phrase Bytes
+Opens free kind full = Spelled free (is kind) (full_limit full)
 
 -- "Property" name [ type ] [ keywords ] ";"
-unfoldable pub PropertyMember : Bool → Bytes → List PropTree → Phrase (List PropTree)
-PropertyMember wide home props = do
-  Opens wide k.Property (nat_le 200 (length props))
-  name ← Fresh wide (has_prop props)
-  type ← TypeGiven wide home
-  given ← Keywords wide section.Property
+unfoldable pub PropertyMember : Free → Bytes → List PropTree → Phrase (List PropTree)
+PropertyMember free home props = do
+  Opens free k.Property (nat_le 200 (length props))
+  name ← Fresh free (has_prop props)
+  type ← TypeGiven free home
+  given ← Keywords free section.Property
   Mark k.Semicolon
   pure (props ++ prop_of name type given ∷ [])
 
 -- "Relationship" name "As" class [ keywords ] ";"
-unfoldable pub RelationMember : Bool → Bytes → List PropTree → Phrase (List PropTree)
-RelationMember wide home props = do
-  Opens wide k.Relationship (nat_le 200 (length props))
-  name ← Fresh wide (has_prop props)
+unfoldable pub RelationMember : Free → Bytes → List PropTree → Phrase (List PropTree)
+RelationMember free home props = do
+  Opens free k.Relationship (nat_le 200 (length props))
+  name ← Fresh free (has_prop props)
   Mark k.As
-  of ← DottedName wide
-  given ← Keywords wide section.Relation
+  of ← DottedName free
+  given ← Keywords free section.Relation
   Mark k.Semicolon
   pure (props ++ relation_of name (whole_name home of) given ∷ [])
 
 -- ---- indexes
 
 -- "," name, where the list has room
-unfoldable pub FurtherProp : Bool → List Bytes → Phrase (List Bytes)
-FurtherProp wide props = Spelled wide is_comma (full_limit (nat_le 3 (length props))) >> (λ prop. props ++ prop ∷ []) <$> Name wide
+unfoldable pub FurtherProp : Free → List Bytes → Phrase (List Bytes)
+FurtherProp free props = Spelled free is_comma (full_limit (nat_le 3 (length props))) >> (λ prop. props ++ prop ∷ []) <$> Name free
 
 -- "(" name { "," name } ")"
-unfoldable pub ListedProps : Bool → Phrase (List Bytes)
-ListedProps wide = do
+unfoldable pub ListedProps : Free → Phrase (List Bytes)
+ListedProps free = do
   Mark k.LParen
-  first ← Name wide
-  all ← Many (FurtherProp wide) (first ∷ [])
+  first ← Name free
+  all ← Many (FurtherProp free) (first ∷ [])
   Mark k.RParen
   pure all
 
 -- name | "(" name { "," name } ")"
-unfoldable pub IndexProps : Bool → Phrase (List Bytes)
-IndexProps wide = Or (ListedProps wide) ((λ prop. prop ∷ []) <$> Name wide)
+unfoldable pub IndexProps : Free → Phrase (List Bytes)
+IndexProps free = Or (ListedProps free) ((λ prop. prop ∷ []) <$> Name free)
 
 -- "Index" name "On" ( name | "(" name { "," name } ")" ) [ keywords ] ";"
-unfoldable pub IndexMember : Bool → List Index → Phrase (List Index)
-IndexMember wide indexes = do
-  Opens wide k.Index (nat_le 50 (length indexes))
-  name ← Fresh wide (has_index indexes)
+unfoldable pub IndexMember : Free → List Index → Phrase (List Index)
+IndexMember free indexes = do
+  Opens free k.Index (nat_le 50 (length indexes))
+  name ← Fresh free (has_index indexes)
   Mark k.On
-  props ← IndexProps wide
-  given ← Keywords wide section.Index
+  props ← IndexProps free
+  given ← Keywords free section.Index
   Mark k.Semicolon
   pure (indexes ++ record { name = name; props = props; unique = given.unique } ∷ [])
 
 -- ---- parameters of a class, and storage blocks; both say nothing
 
 -- [ "As" class ]
-unfoldable pub ResultType : Bool → Phrase (Unit {0})
-ResultType wide = Or (Mark k.As >> nothing <$> DottedName wide) (pure tt)
+unfoldable pub ResultType : Free → Phrase (Unit {0})
+ResultType free = Or (Mark k.As >> nothing <$> DottedName free) (pure tt)
 
 -- [ "=" value ]
-unfoldable pub SkippedValue : Bool → Phrase (Unit {0})
-SkippedValue wide = Or (Mark k.Equals >> nothing <$> Value wide Skipped) (pure tt)
+unfoldable pub SkippedValue : Free → Phrase (Unit {0})
+SkippedValue free = Or (Mark k.Equals >> nothing <$> Value free Skipped) (pure tt)
 
 -- "Parameter" name [ "As" class ] [ "=" value ] ";"
-unfoldable pub ParameterMember : Bool → Phrase (Unit {0})
-ParameterMember wide = do
+unfoldable pub ParameterMember : Free → Phrase (Unit {0})
+ParameterMember free = do
   Mark k.Parameter
-  Name wide
-  ResultType wide
-  SkippedValue wide
+  Name free
+  ResultType free
+  SkippedValue free
   Mark k.Semicolon
 
 -- "Storage" name "{" balanced "}"
-unfoldable pub StorageMember : Bool → Phrase (Unit {0})
-StorageMember wide = do
+unfoldable pub StorageMember : Free → Phrase (Unit {0})
+StorageMember free = do
   Mark k.Storage
-  Name wide
-  nothing <$> Block wide false
+  Name free
+  nothing <$> Block free false
 
 -- ---- methods
 
 -- [ "=" literal ]
-unfoldable pub Default : Bool → Phrase (Option Bytes)
-Default wide = Or (Mark k.Equals >> Some <$> Literal wide false) (pure None)
+unfoldable pub Default : Free → Phrase (Option Bytes)
+Default free = Or (Mark k.Equals >> Some <$> Literal free false) (pure None)
 
 -- name [ "As" class ] [ "=" literal ]
-unfoldable pub Argument : Bool → Phrase Arg
-Argument wide = do
-  name ← Name wide
-  ResultType wide
-  default ← Default wide
+unfoldable pub Argument : Free → Phrase Arg
+Argument free = do
+  name ← Name free
+  ResultType free
+  default ← Default free
   pure (record { name = name; default = default })
 
 -- "," argument, where the list has room
-unfoldable pub FurtherArgument : Bool → List Arg → Phrase (List Arg)
-FurtherArgument wide args = Spelled wide is_comma (full_limit (nat_le 16 (length args))) >> (λ arg. args ++ arg ∷ []) <$> Argument wide
+unfoldable pub FurtherArgument : Free → List Arg → Phrase (List Arg)
+FurtherArgument free args = Spelled free is_comma (full_limit (nat_le 16 (length args))) >> (λ arg. args ++ arg ∷ []) <$> Argument free
 
 -- argument { "," argument }
-unfoldable pub SomeArguments : Bool → Phrase (List Arg)
-SomeArguments wide = Argument wide >>= (λ first. Many (FurtherArgument wide) (first ∷ []))
+unfoldable pub SomeArguments : Free → Phrase (List Arg)
+SomeArguments free = Argument free >>= (λ first. Many (FurtherArgument free) (first ∷ []))
 
 -- "(" [ argument { "," argument } ] ")"
-unfoldable pub Arguments : Bool → Phrase (List Arg)
-Arguments wide = do
+unfoldable pub Arguments : Free → Phrase (List Arg)
+Arguments free = do
   Mark k.LParen
-  all ← Or (SomeArguments wide) (pure [])
+  all ← Or (SomeArguments free) (pure [])
   Mark k.RParen
   pure all
 
 -- "{" body "}"
-unfoldable pub BodyBlock : Bool → Phrase Body
-BodyBlock wide = body_of <$> Picked wide is_block cut_limit
+unfoldable pub BodyBlock : Free → Phrase Body
+BodyBlock free = body_of <$> Picked free is_block cut_limit
 
 -- ( "Method" | "ClassMethod" ) name arguments [ "As" class ] [ keywords ] "{" body "}"; the body's place is that of its
 -- first byte in the text
-unfoldable pub MethodMember : Bool → Bytes → Kind → Bool → List Method → Phrase (List Method)
-MethodMember wide text kind of_class methods = do
-  Opens wide kind (nat_le 500 (length methods))
-  name ← Fresh wide (has_method methods)
-  args ← Arguments wide
-  ResultType wide
-  Keywords wide section.Method
-  body ← BodyBlock wide
+unfoldable pub MethodMember : Free → Bytes → Kind → Bool → List Method → Phrase (List Method)
+MethodMember free text kind of_class methods = do
+  Opens free kind (nat_le 500 (length methods))
+  name ← Fresh free (has_method methods)
+  args ← Arguments free
+  ResultType free
+  Keywords free section.Method
+  body ← BodyBlock free
   pure (methods ++ method_of name of_class args body.text (place_of text body.left) ∷ [])

@@ -1,10 +1,10 @@
 -- A token that may stand there but for a limit, and a choice by the kind of the next token.
-use Rattle.std.proofs.Common.{◌≡◌, Bool, true, false, not, [], ◌∷◌, ◌++◌, Option, Some, None, Err, ◌⊎◌, inl, inr, refl, sym, ap, subst, ◌∙◌}
+use Rattle.std.proofs.Common.{◌≡◌, ℕ, ◌≤◌, arith, Bool, true, false, not, [], ◌∷◌, ◌++◌, Option, Some, None, Err, ◌⊎◌, inl, inr, refl, sym, ap, subst, ◌∙◌}
 use Rattle.text_reading.specs.declared.stop.Refusal.{Refusal}
 use Rattle.text_reading.specs.Tokens.{Tok, Toks, Tongue, head_kind}
 use Rattle.text_reading.specs.Parsing.{Parser, pick, either}
-use Rattle.text_reading.specs.Grammar.{Lang, Picked, Or}
-use Rattle.text_reading.proofs.Theory.{Right, Accepts, Refuses, Any, always, Begins, Joins, good, ok_fst, ok_snd, bool_cases, same_head, same_heads}
+use Rattle.text_reading.specs.Grammar.{Lang, Picked, none_free, all_free, free_from, Or}
+use Rattle.text_reading.proofs.Theory.{Right, Accepts, Refuses, Any, always, Begins, Joins, good, ok_fst, ok_snd, bool_cases, token_of, same_head, same_heads}
 
 abbrev no_limit : {A : Type 0} → Option A → Type 0
 no_limit o = o ≡ None
@@ -12,6 +12,10 @@ no_limit o = o ≡ None
 option_cases : {A : Type 0} (o : Option A) → (o ≡ None) ⊎ ((a : A) × (o ≡ Some a))
 option_cases None = inl refl
 option_cases (Some a) = inr (a, refl)
+
+no_free : {A : Type 0} → ⊥ ⊎ A → A
+no_free (inl f) = absurd f
+no_free (inr a) = a
 
 module _ {K W : Type 0} (T : Tongue K W) where
   -- ---- one token
@@ -36,7 +40,7 @@ module _ {K W : Type 0} (T : Tongue K W) where
     ended : can (head_kind T []) ≡ true → ⊥
     ended h = let f = sym ends ∙ h in (cc)
 
-    pick_sound : (ts : Toks K) (x : Tok K) (rest : Toks K) → pick T false can limit ts ≡ good x rest → Accepts T (Picked false can limit) (pick T false can limit) (pick T true can limit) ts x rest
+    pick_sound : (ts : Toks K) (x : Tok K) (rest : Toks K) → pick T false can limit ts ≡ good x rest → Accepts T (Picked none_free can limit) (pick T false can limit) (pick T true can limit) ts x rest
     pick_sound [] x rest e = absurd (let f = sym (pick_gone false [] ends) ∙ e in (cc))
     pick_sound (t ∷ ts) x rest e = elim (bool_cases (can t.kind)) [
       | inr gone ↦ absurd (let f = sym (pick_gone false (t ∷ ts) gone) ∙ e in (cc))
@@ -48,7 +52,7 @@ module _ {K W : Type 0} (T : Tongue K W) where
             record {
               used = t ∷ [];
               parts = ap (λ u. t ∷ u) (ok_snd t x ts rest f);
-              phrase = (ap (λ u. u ∷ []) is, subst (λ u. can u.kind ≡ true) is here, subst (λ u. limit u ≡ None) is none);
+              phrase = (ap (λ u. u ∷ []) is, subst (λ u. can u.kind ≡ true) is here, inr (subst (λ u. limit u ≡ None) is none));
               again = λ other _. pick_good t other here none ∙ ap (λ v. good v other) is;
               wide = λ other _. pick_wide t other here ∙ ap (λ v. good v other) is;
             }
@@ -58,21 +62,24 @@ module _ {K W : Type 0} (T : Tongue K W) where
     abbrev Faults : Type 0
     Faults = (t : Tok K) (ts : Toks K) (r : Refusal W) → can t.kind ≡ true → limit t ≡ Some r → T.IsFault (t ∷ ts) r
 
-    pick_refused : Faults → (a : Tok K) → can a.kind ≡ true → (ts : Toks K) (r : Refusal W) → pick T false can limit ts ≡ Err r → Refuses T (Picked true can limit) (pick T false can limit) (pick T true can limit) ts r
-    pick_refused faults a some [] r e =
+    -- a token of the kind that is free
+    clean_pick : (kind : K) → can kind ≡ true → (n : ℕ) → (more : Toks K) × (x : Tok K) × Picked (free_from n) can limit more x
+    clean_pick kind some n = (token_of kind ∷ [], token_of kind, (refl, some, inl (omega arith)))
+
+    pick_refused : Faults → (kind : K) → can kind ≡ true → (ts : Toks K) (r : Refusal W) → pick T false can limit ts ≡ Err r
+        → Refuses T (λ n. Picked (free_from n) can limit) (Picked all_free can limit) (pick T false can limit) (pick T true can limit) ts r
+    pick_refused faults kind some [] r e =
         let f = sym (pick_gone false [] ends) ∙ e in
         let is : T.refusal [] ≡ r = cc in
         record {
           used = [];
           rest = [];
           parts = refl;
-          more = a ∷ [];
-          value = a;
-          viable = (refl, some);
+          clean = clean_pick kind some;
           stuck = λ t after other none. absurd (cc);
           reason = inl (record { is = sym is; stuck = λ t after other none. absurd (cc) });
         }
-    pick_refused faults a some (t ∷ ts) r e = elim (bool_cases (can t.kind)) [
+    pick_refused faults kind some (t ∷ ts) r e = elim (bool_cases (can t.kind)) [
       | inr gone ↦
           let f = sym (pick_gone false (t ∷ ts) gone) ∙ e in
           let is : T.refusal (t ∷ ts) ≡ r = cc in
@@ -81,9 +88,7 @@ module _ {K W : Type 0} (T : Tongue K W) where
             used = [];
             rest = t ∷ ts;
             parts = refl;
-            more = a ∷ [];
-            value = a;
-            viable = (refl, some);
+            clean = clean_pick kind some;
             stuck = λ u after other heads. (T.refusal (u ∷ other), pick_gone false (u ∷ other) (same u after heads));
             reason = inl (record { is = sym is; stuck = λ u after other heads. (T.refusal (u ∷ other), pick_gone true (u ∷ other) (same u after heads)) });
           }
@@ -97,23 +102,23 @@ module _ {K W : Type 0} (T : Tongue K W) where
               used = [];
               rest = t ∷ ts;
               parts = refl;
-              more = a ∷ [];
-              value = a;
-              viable = (refl, some);
+              clean = clean_pick kind some;
               stuck = λ u after other heads. (stop.0, subst (λ v. pick T false can limit (v ∷ other) ≡ Err stop.0) (first u after heads) (pick_stopped t other stop.0 here stop.1));
-              reason = inr (record { is = subst (λ s. T.IsFault (t ∷ ts) s) is (faults t ts stop.0 here stop.1); token = t; after = ts; begins = refl; more = []; value = t; goes-on = (refl, here) });
+              reason = inr (record { is = subst (λ s. T.IsFault (t ∷ ts) s) is (faults t ts stop.0 here stop.1); token = t; after = ts; begins = refl; more = []; value = t; goes-on = (refl, here, inl tt) });
             }
       ]
     ]
 
     -- a token that passes no limit; some token is of such a kind, and each limit is a fault
-    pub right_pick : Faults → (a : Tok K) → can a.kind ≡ true → Right T Any (Picked false can limit) (Picked true can limit) always (pick T false can limit) (pick T true can limit)
-    right_pick faults a some = record {
+    pub right_pick : Faults → (kind : K) → can kind ≡ true
+        → Right T Any (Picked none_free can limit) (λ n. Picked (free_from n) can limit) (Picked all_free can limit) always (pick T false can limit) (pick T true can limit)
+    right_pick faults kind some = record {
       sound = λ ts x rest _ e. pick_sound ts x rest e;
-      narrow = record { all = λ used rest x _ l _. ap (λ u. pick T false can limit (u ++ rest)) l.0 ∙ pick_good x rest l.1 l.2 };
+      narrow = record { all = λ used rest x _ l _. ap (λ u. pick T false can limit (u ++ rest)) l.0 ∙ pick_good x rest l.1 (no_free l.2) };
       wide = record { all = λ used rest x _ l _. ap (λ u. pick T true can limit (u ++ rest)) l.0 ∙ pick_wide x rest l.1 };
-      refused = λ ts r _ e. pick_refused faults a some ts r e;
-      within = λ ts x l. (l.0, l.1);
+      refused = λ ts r _ e. pick_refused faults kind some ts r e;
+      within = λ ts x l. (l.0, l.1, inl tt);
+      keeps = λ n ts x l. (l.0, l.1, inr (no_free l.2));
     }
 
   -- ---- the one or the other
@@ -132,8 +137,8 @@ module _ {K W : Type 0} (T : Tongue K W) where
   gone_false : (goes : K → Bool) (h : K) → gone goes h ≡ true → goes h ≡ false
   gone_false goes h e = elim (bool_cases (goes h)) [ inl here ↦ absurd (let f = rw here at e in (cc)) | inr is ↦ is ]
 
-  module _ {A : Type 0} {goes : K → Bool} {P PV Q QV : Lang K A} {S : K → Bool} {p pV q qV : Parser K W A}
-      (rp : Right T (λ h. goes h ≡ true) P PV S p pV) (rq : Right T (λ h. goes h ≡ false) Q QV S q qV)
+  module _ {A : Type 0} {goes : K → Bool} {P PV Q QV : Lang K A} {PC QC : ℕ → Lang K A} {S : K → Bool} {p pV q qV : Parser K W A}
+      (rp : Right T (λ h. goes h ≡ true) P PC PV S p pV) (rq : Right T (λ h. goes h ≡ false) Q QC QV S q qV)
       (begins : Begins PV (λ h. goes h ≡ true)) (joins : Joins T QV S (gone goes)) where
     -- what goes on with the same first token chooses the same
     head_goes : (ts used rest : Toks K) → ts ≡ used ++ rest → (b : Bool) → goes (head_kind T ts) ≡ b → (t : Tok K) (after other : Toks K) → rest ≡ t ∷ after → goes (head_kind T (used ++ t ∷ other)) ≡ b
@@ -171,7 +176,7 @@ module _ {K W : Type 0} (T : Tongue K W) where
           }
     ]
 
-    refused_either : (ts : Toks K) (r : Refusal W) → either T goes p q ts ≡ Err r → Refuses T (Or PV QV) (either T goes p q) (either T goes pV qV) ts r
+    refused_either : (ts : Toks K) (r : Refusal W) → either T goes p q ts ≡ Err r → Refuses T (λ n. Or (PC n) (QC n)) (Or PV QV) (either T goes p q) (either T goes pV qV) ts r
     refused_either ts r e = elim (bool_cases (goes (head_kind T ts))) [
       | inl here ↦
           let one = rp.refused ts r here (sym (goes_one goes p q ts here) ∙ e) in
@@ -180,9 +185,7 @@ module _ {K W : Type 0} (T : Tongue K W) where
             used = one.used;
             rest = one.rest;
             parts = one.parts;
-            more = one.more;
-            value = one.value;
-            viable = inl one.viable;
+            clean = λ n. let c = one.clean n in (c.0, c.1, inl c.2);
             stuck = λ t after other is. let s = one.stuck t after other is in (s.0, goes_one goes p q (one.used ++ t ∷ other) (go t after other is) ∙ s.1);
             reason = elim one.reason [
               | inl l ↦ inl (record { is = l.is; stuck = λ t after other is. let s = l.stuck t after other is in (s.0, goes_one goes pV qV (one.used ++ t ∷ other) (go t after other is) ∙ s.1) })
@@ -196,9 +199,7 @@ module _ {K W : Type 0} (T : Tongue K W) where
             used = two.used;
             rest = two.rest;
             parts = two.parts;
-            more = two.more;
-            value = two.value;
-            viable = inr two.viable;
+            clean = λ n. let c = two.clean n in (c.0, c.1, inr c.2);
             stuck = λ t after other is. let s = two.stuck t after other is in (s.0, goes_other goes p q (two.used ++ t ∷ other) (go t after other is) ∙ s.1);
             reason = elim two.reason [
               | inl l ↦ inl (record { is = l.is; stuck = λ t after other is. let s = l.stuck t after other is in (s.0, goes_other goes pV qV (two.used ++ t ∷ other) (go t after other is) ∙ s.1) })
@@ -207,7 +208,7 @@ module _ {K W : Type 0} (T : Tongue K W) where
           }
     ]
 
-    pub right_either : Right T Any (Or P Q) (Or PV QV) S (either T goes p q) (either T goes pV qV)
+    pub right_either : Right T Any (Or P Q) (λ n. Or (PC n) (QC n)) (Or PV QV) S (either T goes p q) (either T goes pV qV)
     right_either = record {
       sound = λ ts x rest _ e. sound_either ts x rest e;
       narrow = record {
@@ -224,4 +225,5 @@ module _ {K W : Type 0} (T : Tongue K W) where
       };
       refused = λ ts r _ e. refused_either ts r e;
       within = λ ts x l. elim l [ inl one ↦ inl (rp.within ts x one) | inr two ↦ inr (rq.within ts x two) ];
+      keeps = λ n ts x l. elim l [ inl one ↦ inl (rp.keeps n ts x one) | inr two ↦ inr (rq.keeps n ts x two) ];
     }

@@ -98,8 +98,8 @@ module _ {K W : Type 0} (T : Tongue K W) where
 
   -- ---- a loop is right
 
-  module _ {A : Type 0} {goes : K → Bool} {Step StepV : A → Lang K A} {S : K → Bool} {step stepV : A → Parser K W A}
-      (each : (a : A) → Right T (λ h. goes h ≡ true) (Step a) (StepV a) S (step a) (stepV a))
+  module _ {A : Type 0} {goes : K → Bool} {Step StepV : A → Lang K A} {StepC : ℕ → A → Lang K A} {S : K → Bool} {step stepV : A → Parser K W A}
+      (each : (a : A) → Right T (λ h. goes h ≡ true) (Step a) (λ n. StepC n a) (StepV a) S (step a) (stepV a))
       (begins : (a : A) → Begins (StepV a) (λ h. goes h ≡ true)) (ends : goes T.end ≡ false) (meets : (h : K) → goes h ≡ true → S h ≡ true) where
     begins_narrow : (a : A) → Begins (Step a) (λ h. goes h ≡ true)
     begins_narrow a ts x l = begins a ts x ((each a).within ts x l)
@@ -158,9 +158,7 @@ module _ {K W : Type 0} (T : Tongue K W) where
       used : Toks K
       rest : Toks K
       parts : ts ≡ used ++ rest
-      more : Toks K
-      value : A
-      viable : Many StepV a (used ++ more) value
+      clean : (n : ℕ) → (more : Toks K) × (x : A) × Many (StepC n) a (used ++ more) x
       stuck : (t : Tok K) (after other : Toks K) → rest ≡ t ∷ after → (m : ℕ) → length (used ++ t ∷ other) ≤ m → (s : Refusal W) × (loop T goes step m a (used ++ t ∷ other) ≡ Err s)
       reason : LoopPlain a used rest r ⊎ Limit T (Many StepV a) used rest r
 
@@ -201,9 +199,7 @@ module _ {K W : Type 0} (T : Tongue K W) where
                       used = one.used;
                       rest = one.rest;
                       parts = one.parts;
-                      more = one.more;
-                      value = one.value;
-                      viable = subst (λ u. Many StepV a u one.value) (append-nil (one.used ++ one.more)) (Next one.viable Done);
+                      clean = λ n. let c = one.clean n in (c.0, c.1, subst (λ u. Many (StepC n) a u c.1) (append-nil (one.used ++ c.0)) (Next c.2 Done));
                       stuck = λ t after other is. first_stuck goes step a ts here one.used one.rest one.parts t after other is (one.stuck t after other is);
                       reason = elim one.reason [
                         | inl l ↦ inl (record { is = l.is; stuck = λ t after other is. first_stuck goes stepV a ts here one.used one.rest one.parts t after other is (l.stuck t after other is) })
@@ -219,9 +215,10 @@ module _ {K W : Type 0} (T : Tongue K W) where
                       used = one.used ++ two.used;
                       rest = two.rest;
                       parts = one.parts ∙ ap (λ u. one.used ++ u) two.parts ∙ sym (append_assoc one.used two.used two.rest);
-                      more = two.more;
-                      value = two.value;
-                      viable = subst (λ u. Many StepV a u two.value) (sym (append_assoc one.used two.used two.more)) (Next inside two.viable);
+                      clean = λ n.
+                          let c = two.clean n in
+                          let kept = (each a).keeps n one.used b.0 one.phrase in
+                          (c.0, c.1, subst (λ u. Many (StepC n) a u c.1) (sym (append_assoc one.used two.used c.0)) (Next kept c.2));
                       stuck = λ t after other is. later_stuck goes step a b.0 ts b.1 one.used two.used two.rest one.again here one.parts two.parts t after other is (g.0, g.1, g.2) (two.stuck t after other is);
                       reason = elim two.reason [
                         | inl l ↦ inl (record { is = l.is; stuck = λ t after other is. later_stuck goes stepV a b.0 ts b.1 one.used two.used two.rest one.wide here one.parts two.parts t after other is (g.0, g.1, g.2) (l.stuck t after other is) })
@@ -235,7 +232,11 @@ module _ {K W : Type 0} (T : Tongue K W) where
     many_within Done = Done
     many_within (Next {a = a} {b = b} {ts = ts} one two) = Next ((each a).within ts b one) (many_within two)
 
-    pub right_many : (a : A) → Right T Any (Many Step a) (Many StepV a) (stop goes S) (many T goes step a) (many T goes stepV a)
+    many_keeps : (n : ℕ) {a b : A} {ts : Toks K} → Many Step a ts b → Many (StepC n) a ts b
+    many_keeps n Done = Done
+    many_keeps n (Next {a = a} {b = b} {ts = ts} one two) = Next ((each a).keeps n ts b one) (many_keeps n two)
+
+    pub right_many : (a : A) → Right T Any (Many Step a) (λ n. Many (StepC n) a) (Many StepV a) (stop goes S) (many T goes step a) (many T goes stepV a)
     right_many a = record {
       sound = λ ts x rest h e.
           let one = loop_sound (length ts) a x ts rest (omega arith) e in
@@ -254,9 +255,7 @@ module _ {K W : Type 0} (T : Tongue K W) where
             used = one.used;
             rest = one.rest;
             parts = one.parts;
-            more = one.more;
-            value = one.value;
-            viable = one.viable;
+            clean = one.clean;
             stuck = λ t after other is. one.stuck t after other is (length (one.used ++ t ∷ other)) (omega arith);
             reason = elim one.reason [
               | inl l ↦ inl (record { is = l.is; stuck = λ t after other is. l.stuck t after other is (length (one.used ++ t ∷ other)) (omega arith) })
@@ -264,6 +263,7 @@ module _ {K W : Type 0} (T : Tongue K W) where
             ];
           };
       within = λ ts x l. many_within l;
+      keeps = λ n ts x l. many_keeps n l;
     }
 
     pub joins_many : (a : A) → Joins T (Many StepV a) (stop goes S) S

@@ -1,5 +1,5 @@
 -- What may be left out.
-use Rattle.std.proofs.Common.{◌≡◌, Bool, true, false, [], ◌∷◌, ◌++◌, Option, Some, None, inl, inr, refl, sym, ap, ◌∙◌}
+use Rattle.std.proofs.Common.{◌≡◌, ℕ, Bool, true, false, [], ◌∷◌, ◌++◌, Option, Some, None, inl, inr, refl, sym, ap, ◌∙◌}
 use Rattle.text_reading.specs.Tokens.{Tok, Toks, Tongue, head_kind}
 use Rattle.text_reading.specs.Parsing.{Parser, ◌<$>◌, optional}
 use Rattle.text_reading.specs.Grammar.{Lang, Optional, Says}
@@ -15,9 +15,9 @@ module _ {K W : Type 0} (T : Tongue K W) where
   unfolding optional
   goes_by goes p ts h = rw h refl
 
-  module _ {A : Type 0} {goes : K → Bool} {P PV : Lang K A} {S : K → Bool} {p pV : Parser K W A}
-      (right : Right T (λ h. goes h ≡ true) P PV S p pV) (begins : Begins PV (λ h. goes h ≡ true)) where
-    whole : Right T (λ h. goes h ≡ true) (Says Some P) (Says Some PV) S (Some <$> p) (Some <$> pV)
+  module _ {A : Type 0} {goes : K → Bool} {P PV : Lang K A} {PC : ℕ → Lang K A} {S : K → Bool} {p pV : Parser K W A}
+      (right : Right T (λ h. goes h ≡ true) P PC PV S p pV) (begins : Begins PV (λ h. goes h ≡ true)) where
+    whole : Right T (λ h. goes h ≡ true) (Says Some P) (λ n. Says Some (PC n)) (Says Some PV) S (Some <$> p) (Some <$> pV)
     whole = right_says T Some right
 
     said_goes : (used rest : Toks K) (o : Option A) → Says Some PV used o → goes (head_kind T (used ++ rest)) ≡ true
@@ -47,7 +47,7 @@ module _ {K W : Type 0} (T : Tongue K W) where
           wide = λ other h. goes_by goes pV other (none other h) ∙ ap (λ v. good v other) is;
         }
 
-    pub right_optional : Right T Any (Optional P) (Optional PV) (stop goes S) (optional T goes p) (optional T goes pV)
+    pub right_optional : Right T Any (Optional P) (λ n. Optional (PC n)) (Optional PV) (stop goes S) (optional T goes p) (optional T goes pV)
     right_optional = record {
       sound = λ ts o rest _ e. elim (bool_cases (goes (head_kind T ts))) [
         | inr gone ↦ left_out ts o rest gone (sym (goes_by goes p ts gone) ∙ e)
@@ -74,9 +74,7 @@ module _ {K W : Type 0} (T : Tongue K W) where
               used = one.used;
               rest = one.rest;
               parts = one.parts;
-              more = one.more;
-              value = one.value;
-              viable = inr one.viable;
+              clean = λ n. let c = one.clean n in (c.0, c.1, inr c.2);
               stuck = λ t after other is. let s = one.stuck t after other is in (s.0, goes_in goes p (one.used ++ t ∷ other) (go t after other is) ∙ s.1);
               reason = elim one.reason [
                 | inl l ↦ inl (record { is = l.is; stuck = λ t after other is. let s = l.stuck t after other is in (s.0, goes_in goes pV (one.used ++ t ∷ other) (go t after other is) ∙ s.1) })
@@ -85,4 +83,5 @@ module _ {K W : Type 0} (T : Tongue K W) where
             }
       ];
       within = λ ts o l. elim l [ inl none ↦ inl none | inr some ↦ inr (whole.within ts o some) ];
+      keeps = λ n ts o l. elim l [ inl none ↦ inl none | inr some ↦ inr (whole.keeps n ts o some) ];
     }

@@ -1,5 +1,5 @@
 -- Grammars: which tokens are a phrase, and what the phrase says.
-use Rattle.std.specs.Prelude.{Option, Some, None, ◌⊎◌, ◌≡◌, Bool, true, false, [], ◌∷◌, ◌++◌}
+use Rattle.std.specs.Prelude.{Option, Some, None, ◌⊎◌, ◌≡◌, ℕ, ◌≤◌, Bool, true, [], ◌∷◌, ◌++◌}
 use Rattle.text_reading.specs.declared.stop.Refusal.{Refusal}
 use Rattle.text_reading.specs.Tokens.{Bytes, Tok, Toks, Tongue, head_kind}
 
@@ -22,10 +22,21 @@ Token {K} kind ts x = (t : Tok K) × (ts ≡ t ∷ []) × (t.kind ≡ kind) × (
 abbrev pub Mark : {K : Type 0} → K → Lang K (Unit {0})
 Mark {K} kind ts x = (t : Tok K) × (ts ≡ t ∷ []) × (t.kind ≡ kind)
 
--- one token of such a kind, which says itself; it passes no limit, if limits count
-abbrev pub Picked : {K W : Type 0} → Bool → (K → Bool) → (Tok K → Option (Refusal W)) → Lang K (Tok K)
-Picked true can limit ts t = (ts ≡ t ∷ []) × (can t.kind ≡ true)
-Picked false can limit ts t = (ts ≡ t ∷ []) × (can t.kind ≡ true) × (limit t ≡ None)
+-- one token of such a kind, which says itself; it passes no limit, unless it is one of those that are free
+abbrev pub Picked : {K W : Type 0} → (Tok K → Type 0) → (K → Bool) → (Tok K → Option (Refusal W)) → Lang K (Tok K)
+Picked free can limit ts t = (ts ≡ t ∷ []) × (can t.kind ≡ true) × (free t ⊎ (limit t ≡ None))
+
+-- limits count for all tokens
+abbrev pub none_free : {K : Type 0} → Tok K → Type 0
+none_free t = ⊥
+
+-- limits count for no token
+abbrev pub all_free : {K : Type 0} → Tok K → Type 0
+all_free t = Unit {0}
+
+-- limits count for the tokens that stand before the place from which on there are n bytes
+abbrev pub free_from : {K : Type 0} → ℕ → Tok K → Type 0
+free_from n t = t.left ≤ n
 
 -- a phrase of the one or of the other
 abbrev pub Or : {K A : Type 0} → Lang K A → Lang K A → Lang K A

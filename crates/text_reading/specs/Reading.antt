@@ -1,9 +1,9 @@
 -- Which texts are read, and where and why the others are refused.
-use Rattle.std.specs.Prelude.{◌≡◌, ◌⊎◌, [], ◌∷◌, ◌++◌, Result, Ok, Err}
+use Rattle.std.specs.Prelude.{◌≡◌, ◌⊎◌, ℕ, [], ◌∷◌, ◌++◌, Result, Ok, Err}
 use Rattle.text_reading.specs.declared.stop.Refusal.{Refusal}
 use Rattle.text_reading.specs.declared.stop.Stop.{Stop}
 use Rattle.text_reading.specs.declared.stop.Stop.TheVariants.{Memory, Refused}
-use Rattle.text_reading.specs.Tokens.{Tok, Toks, Tongue}
+use Rattle.text_reading.specs.Tokens.{Tok, Toks, Tongue, left}
 use Rattle.text_reading.specs.Parsing.{Outcome, Parser}
 use Rattle.text_reading.specs.Grammar.{Lang}
 
@@ -17,22 +17,25 @@ IsReason {K} T V used rest r =
     ((r ≡ T.refusal rest) × ((t : Tok K) (after : Toks K) → rest ≡ t ∷ after → Begins V (used ++ t ∷ []) → ⊥))
     ⊎ (T.IsFault rest r × (t : Tok K) × (after : Toks K) × (rest ≡ t ∷ after) × Begins V (used ++ t ∷ []))
 
--- The tokens are refused so. L is the grammar, V the same where no limit counts.
-pub record IsRefused {K W A : Type 0} (T : Tongue K W) (L V : Lang K A) (ts : Toks K) (r : Refusal W) : Type 0 where
+-- The tokens are refused so. L is the grammar, V the same where no limit counts, and `C n` the same where limits count
+-- for the tokens that stand before the place from which on there are n bytes.
+pub record IsRefused {K W A : Type 0} (T : Tongue K W) (L : Lang K A) (C : ℕ → Lang K A) (V : Lang K A) (ts : Toks K)
+    (r : Refusal W) : Type 0 where
   pub used : Toks K
   pub rest : Toks K
   pub parts : ts ≡ used ++ rest
-  -- what stands before the refused token, or the end, begins a text
-  pub begins : Begins V used
+  -- what stands before the refused token, or the end, begins a text, and none of its tokens passes a limit
+  pub begins : Begins (C (left rest)) used
   -- with that token no text does
   pub none : (t : Tok K) (after : Toks K) → rest ≡ t ∷ after → Begins L (used ++ t ∷ []) → ⊥
   pub reason : IsReason T V used rest r
 
 -- what a reader answers, against the grammar
-pub record IsReading {K W A : Type 0} (T : Tongue K W) (L V : Lang K A) (ts : Toks K) (result : Result A (Stop W)) : Type 0 where
+pub record IsReading {K W A : Type 0} (T : Tongue K W) (L : Lang K A) (C : ℕ → Lang K A) (V : Lang K A) (ts : Toks K)
+    (result : Result A (Stop W)) : Type 0 where
   pub found : (x : A) → result ≡ Ok x → L ts x
   pub only : (x : A) → L ts x → (result ≡ Ok x) ⊎ (result ≡ Err Memory)
-  pub refused : (r : Refusal W) → result ≡ Err (Refused r) → IsRefused T L V ts r
+  pub refused : (r : Refusal W) → result ≡ Err (Refused r) → IsRefused T L C V ts r
 
 -- ---- the same as a function
 
