@@ -37,8 +37,12 @@ fn note(alloc: Global, asked: &mut Items<Text>, name: &str) -> Result<(), NoMemo
 }
 
 impl MemFiles {
+    ghost use Rattle.obj_edges.specs.MemoryViews.{IsFreshFiles, files_of, with_files, read_faults, names_asked};
+
     /// No files, of which the reads with these numbers, counted from 1, will fail.
-    pub fn new(alloc: Global, failing: Items<u64>) -> MemFiles {
+    pub fn new(alloc: Global, failing: Items<u64>) -> MemFiles
+        ensures { IsFreshFiles result failing }
+    {
         MemFiles {
             files: Items::new(alloc),
             failing,
@@ -49,7 +53,10 @@ impl MemFiles {
     }
 
     /// Adds a file behind the others; of two with one name the earlier is read.
-    pub fn add(&mut self, alloc: Global, name: &str, bytes: &[u8]) -> Result<(), NoMemory> {
+    pub fn add(&mut self, alloc: Global, name: &str, bytes: &[u8]) -> Result<(), NoMemory>
+        ensures ok { OnOk result (self.new ≡ with_files self.old (files_of self.old ++ (name.now, bytes.now) ∷ [])) }
+        ensures err { OnErr result (self.new ≡ self.old) }
+    {
         let name = Text::from_slice(alloc, name.as_bytes())?;
         let bytes = Text::from_slice(alloc, bytes)?;
         self.files.push((name, bytes))?;
@@ -57,12 +64,16 @@ impl MemFiles {
     }
 
     /// How many reads failed.
-    pub fn faults(&self) -> u64 {
+    pub fn faults(&self) -> u64
+        ensures { result ≡ read_faults self.now }
+    {
         self.faults
     }
 
     /// The names asked so far, in order.
-    pub fn asked(&self) -> &[Text] {
+    pub fn asked(&self) -> &[Text]
+        ensures { result.now ≡ names_asked self.now }
+    {
         self.asked.as_slice()
     }
 

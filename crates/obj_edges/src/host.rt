@@ -15,7 +15,9 @@ pub struct HostFiles<R: rt::Files + Drop> {
 
 impl<R: rt::Files + Drop> HostFiles<R> {
     /// The files that the runtime reaches.
-    pub fn new(rt: R) -> HostFiles<R> {
+    pub fn new(rt: R) -> HostFiles<R>
+        ensures { result.faults ≡ 0 }
+    {
         HostFiles { rt, faults: 0 }
     }
 }
@@ -72,7 +74,9 @@ pub struct StdSink<R: Print + Drop> {
 
 impl<R: Print + Drop> StdSink<R> {
     /// The standard output of the runtime.
-    pub fn new(rt: R) -> StdSink<R> {
+    pub fn new(rt: R) -> StdSink<R>
+        ensures { result.faults ≡ 0 }
+    {
         StdSink { rt, faults: 0 }
     }
 }
@@ -105,7 +109,9 @@ pub struct FileDevice<R: rt::Files + Drop> {
 impl<R: rt::Files + Drop> FileDevice<R> {
     /// The device of the process with this number. The file's name is made here, so that a put takes
     /// memory at most where it opens the file, and a want of it there counts as a fault.
-    pub fn new(alloc: Global, rt: R, process: usize) -> Result<FileDevice<R>, NoMemory> {
+    pub fn new(alloc: Global, rt: R, process: usize) -> Result<FileDevice<R>, NoMemory>
+        ensures { IfOk result (λ device. device.faults ≡ 0) }
+    {
         let name = format!(in alloc; "{process}.out")?;
         Ok(FileDevice {
             rt,

@@ -18,7 +18,12 @@ struct Room {
 }
 
 impl Room {
-    fn new(alloc: Global, len: usize, failing: Items<u64>) -> Result<Room, NoMemory> {
+    ghost use Rattle.std.specs.Prelude.{IfOk};
+    ghost use Rattle.obj_edges.specs.MemoryViews.{IsFreshRoom};
+
+    fn new(alloc: Global, len: usize, failing: Items<u64>) -> Result<Room, NoMemory>
+        ensures { IfOk result (λ room. IsFreshRoom room len failing) }
+    {
         Ok(Room {
             bytes: Vec::with_capacity(alloc, len)?,
             len,
@@ -83,20 +88,29 @@ pub struct MemSink {
 }
 
 impl MemSink {
+    ghost use Rattle.std.specs.Prelude.{IfOk};
+    ghost use Rattle.obj_edges.specs.MemoryViews.{IsFreshSink, sink_bytes, sink_faults};
+
     /// Room for this many bytes; the puts with these numbers, counted from 1, will fail.
-    pub fn new(alloc: Global, len: usize, failing: Items<u64>) -> Result<MemSink, NoMemory> {
+    pub fn new(alloc: Global, len: usize, failing: Items<u64>) -> Result<MemSink, NoMemory>
+        ensures { IfOk result (λ sink. IsFreshSink sink len failing) }
+    {
         Ok(MemSink {
             room: Room::new(alloc, len, failing)?,
         })
     }
 
     /// All bytes put so far.
-    pub fn bytes(&self) -> &[u8] {
+    pub fn bytes(&self) -> &[u8]
+        ensures { result.now ≡ sink_bytes self.now }
+    {
         self.room.bytes.as_slice()
     }
 
     /// How many puts failed.
-    pub fn faults(&self) -> u64 {
+    pub fn faults(&self) -> u64
+        ensures { result ≡ sink_faults self.now }
+    {
         self.room.faults
     }
 }
@@ -120,15 +134,22 @@ pub struct MemDevice {
 }
 
 impl MemDevice {
+    ghost use Rattle.std.specs.Prelude.{IfOk};
+    ghost use Rattle.obj_edges.specs.MemoryViews.{IsFreshDevice, device_faults};
+
     /// Room for this many bytes; the puts with these numbers, counted from 1, will fail.
-    pub fn new(alloc: Global, len: usize, failing: Items<u64>) -> Result<MemDevice, NoMemory> {
+    pub fn new(alloc: Global, len: usize, failing: Items<u64>) -> Result<MemDevice, NoMemory>
+        ensures { IfOk result (λ device. IsFreshDevice device len failing) }
+    {
         Ok(MemDevice {
             room: Room::new(alloc, len, failing)?,
         })
     }
 
     /// How many puts failed.
-    pub fn faults(&self) -> u64 {
+    pub fn faults(&self) -> u64
+        ensures { result ≡ device_faults self.now }
+    {
         self.room.faults
     }
 }
