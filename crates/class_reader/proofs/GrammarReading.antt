@@ -4,7 +4,7 @@ use Rattle.schema_kinds.specs.declared.tree.ClassTree.{ClassTree}
 use Rattle.text_reading.specs.declared.stop.Stop.{Stop}
 use Rattle.text_reading.specs.declared.stop.Stop.TheVariants.{Refused}
 use Rattle.text_reading.specs.Tokens.{Bytes}
-use Rattle.text_reading.specs.Grammar.{none_free, all_free, free_from}
+use Rattle.text_reading.specs.Grammar.{none_free, all_free, free_by}
 use Rattle.text_reading.specs.Reading.{IsReading, whole, Gives}
 use Rattle.text_reading.proofs.Theory.{always}
 use Rattle.text_reading.proofs.Loops.{stop}
@@ -28,7 +28,7 @@ stops_at_end = refl
 -- against the grammar, for what the parser of the clause above answers
 parsed : (text : Bytes) (result : Result (List ClassTree) (Stop ClassWhy))
     → Gives result (whole tongue (classes false text) (file_tokens text))
-    → IsReading tongue (Classes none_free text) (λ n. Classes (free_from n) text) (Classes all_free text) (file_tokens text) result
+    → IsReading tongue (Classes none_free text) (λ n. Classes (free_by n) text) (Classes all_free text) (file_tokens text) result
 parsed text result g = reading_is tongue (known_classes text).right stops_at_end (file_tokens text) result g
 
 pub grammar_is : (text : Bytes) (result : Result (List ClassTree) ReadError) → IsRead text result → IsClassFile text result

@@ -2,7 +2,7 @@
 use Rattle.std.proofs.Common.{◌≡◌, ◌+◌, Bool, true, false, not, ◌&&◌, ◌||◌, [], ◌∷◌, ◌++◌, length, Option, Some, None, inl, inr, refl, ap, subst, ◌∙◌}
 use Rattle.std.specs.Prelude.{nat_lt}
 use Rattle.text_reading.specs.Tokens.{Bytes, at_left}
-use Rattle.text_reading.specs.Grammar.{none_free, all_free, free_from}
+use Rattle.text_reading.specs.Grammar.{none_free, all_free, free_by}
 use Rattle.text_reading.specs.Parsing.{and_then, pure, ◌<$>◌, ◌>>=◌}
 use Rattle.text_reading.specs.Parsing as p
 use Rattle.text_reading.proofs.Theory.{always}
@@ -28,7 +28,7 @@ use Rattle.class_reader.proofs.AllKinds.{all_kinds}
 abbrev pub Known : {A : Type 0} → (Free → Phrase A) → (Kind → Bool) → Bool → (Kind → Bool) → (Bool → Parser A)
     → Type 0
 Known L first empty S p =
-    Piece tongue (L none_free) (λ n. L (free_from n)) (L all_free) first empty S (p false) (p true)
+    Piece tongue (L none_free) (λ n. L (free_by n)) (L all_free) first empty S (p false) (p true)
 
 -- ---- each limit is a fault of its token
 

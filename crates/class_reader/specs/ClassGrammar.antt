@@ -1,5 +1,5 @@
--- The grammar of class files, from names to keywords: which tokens are such a phrase, and what it says. `free` tells the
--- tokens for which limits don't count; all the others pass none.
+-- The grammar of class files, from names to keywords: which tokens are such a phrase, and what it says. `free` tells
+-- which limits don't count for which tokens; with `none_free` all limits count.
 use Rattle.std.specs.Prelude.{Bool, true, false, ◌&&◌, not, Option, Some, None, ◌∷◌, ◌++◌}
 use Rattle.class_tokens.specs.declared.token.Kind.{Kind}
 use Rattle.class_tokens.specs.declared.token.Kind.TheVariants as k
@@ -10,7 +10,7 @@ use Rattle.class_reader.specs.declared.keywords.Key.{Key}
 use Rattle.text_reading.specs.Tokens.{Bytes}
 use Rattle.text_reading.specs.Grammar.{Lang, Mark, Picked, Or, Many, ◌>>=◌, ◌>>◌, ◌<$>◌, pure}
 use Rattle.class_tokens.specs.ClassKinds.{is_name, is_word, is_own_word, is_number, is_text, is_block}
-use Rattle.class_tokens.specs.ClassSteps.{Token, Limit, no_limit, text_of}
+use Rattle.class_tokens.specs.ClassSteps.{Token, Stopped, Limit, no_limit, text_of}
 use Rattle.class_reader.specs.ClassNames.{name_limit, fresh_limit, class_word_limit, is_dot, dot_limit, further_limit, own_limit}
 use Rattle.class_reader.specs.ClassValues.{content, barred_limit, number_limit, string_limit, is_minus, block_limit, value_limit, is_comma}
 use Rattle.class_reader.specs.ClassKeys.{is_only, bars_block, rule_of, noted, nothing_given}
@@ -19,9 +19,9 @@ use Rattle.class_reader.specs.ClassKeywords.{key_limit, key, is_not, is_closing_
 abbrev pub Phrase : Type 0 → Type 1
 Phrase A = Lang Kind A
 
--- tokens for which limits don't count
+-- which tokens are free of which refusals
 abbrev pub Free : Type 1
-Free = Token → Type 0
+Free = Token → Stopped → Type 0
 
 -- the bytes of a token of such a kind
 unfoldable pub Spelled : Free → (Kind → Bool) → Limit → Phrase Bytes

@@ -1,5 +1,5 @@
 -- What the reader of class files answers.
-use Rattle.std.specs.Prelude.{◌≡◌, ◌⊎◌, ℕ, List, Result, Ok, Err, true, false}
+use Rattle.std.specs.Prelude.{◌≡◌, ◌⊎◌, ℕ, List, Result, Ok, Err, false}
 use Rattle.schema_kinds.specs.declared.tree.ClassTree.{ClassTree}
 use Rattle.class_tokens.specs.declared.error.ClassWhy.{ClassWhy}
 use Rattle.class_reader.specs.declared.error.ReadError.{ReadError}
@@ -7,7 +7,7 @@ use Rattle.class_reader.specs.declared.error.ReadError.TheVariants.{BadClass, No
 use Rattle.text_reading.specs.declared.stop.Refusal.{Refusal}
 use Rattle.text_reading.specs.Tokens.{Bytes}
 use Rattle.text_reading.specs.Places.{place_of}
-use Rattle.text_reading.specs.Grammar.{none_free, all_free, free_from}
+use Rattle.text_reading.specs.Grammar.{none_free, all_free, free_by}
 use Rattle.text_reading.specs.Reading.{IsRefused, whole}
 use Rattle.class_tokens.specs.ClassLex.{file_tokens}
 use Rattle.class_tokens.specs.ClassSteps.{tongue}
@@ -36,8 +36,9 @@ pub record IsClassFile (text : Bytes) (result : Result (List ClassTree) ReadErro
   pub found : (trees : List ClassTree) → result ≡ Ok trees → Classes none_free text (file_tokens text) trees
   -- a class file is read, unless memory runs out
   pub only : (trees : List ClassTree) → Classes none_free text (file_tokens text) trees → (result ≡ Ok trees) ⊎ (result ≡ Err NoMemory)
-  -- what stands before the place begins a class file in which its tokens pass no limit, and with the token at the place
-  -- it begins none; the reason is a limit exactly where it still begins one if no limit counts
+  -- What stands before the place begins a class file whose tokens so far meet no limit, and with the token at the place
+  -- it begins none. The reason is a limit where with the token it begins a text that meets this one limit and, so far, no
+  -- other; else it begins none even if no limit counts.
   pub refused : (line column : ℕ) (why : ClassWhy) → result ≡ Err (BadClass line column why)
-      → (r : Refusal ClassWhy) × IsPlaced text r line column why × IsRefused tongue (Classes none_free text) (λ n. Classes (free_from n) text) (Classes all_free text)
-          (file_tokens text) r
+      → (r : Refusal ClassWhy) × IsPlaced text r line column why × IsRefused tongue (Classes none_free text) (λ w. Classes (free_by w) text) (Classes all_free text)
+      (file_tokens text) r

@@ -1,5 +1,5 @@
 -- The grammar of class files: classes, and whole files.
-use Rattle.std.specs.Prelude.{Bool, true, false, nat_le, List, [], ◌∷◌, ◌++◌, length}
+use Rattle.std.specs.Prelude.{true, false, nat_le, List, [], ◌∷◌, ◌++◌, length}
 use Rattle.obj_kinds.specs.declared.name.ClassName.{ClassName}
 use Rattle.schema_kinds.specs.declared.tree.ClassTree.{ClassTree}
 use Rattle.class_tokens.specs.declared.token.Kind.TheVariants as k

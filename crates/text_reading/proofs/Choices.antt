@@ -1,9 +1,9 @@
 -- A token that may stand there but for a limit, and a choice by the kind of the next token.
-use Rattle.std.proofs.Common.{◌≡◌, ℕ, ◌≤◌, arith, Bool, true, false, not, [], ◌∷◌, ◌++◌, Option, Some, None, Err, ◌⊎◌, inl, inr, refl, sym, ap, subst, ◌∙◌}
+use Rattle.std.proofs.Common.{◌≡◌, arith, Bool, true, false, not, [], ◌∷◌, ◌++◌, Option, Some, None, Err, ◌⊎◌, inl, inr, refl, sym, ap, subst, ◌∙◌}
 use Rattle.text_reading.specs.declared.stop.Refusal.{Refusal}
 use Rattle.text_reading.specs.Tokens.{Tok, Toks, Tongue, head_kind}
 use Rattle.text_reading.specs.Parsing.{Parser, pick, either}
-use Rattle.text_reading.specs.Grammar.{Lang, Picked, none_free, all_free, free_from, Or}
+use Rattle.text_reading.specs.Grammar.{Lang, Waiver, Picked, none_free, all_free, free_by, Or}
 use Rattle.text_reading.proofs.Theory.{Right, Accepts, Refuses, Any, always, Begins, Joins, good, ok_fst, ok_snd, bool_cases, token_of, same_head, same_heads}
 
 abbrev no_limit : {A : Type 0} → Option A → Type 0
@@ -13,9 +13,9 @@ option_cases : {A : Type 0} (o : Option A) → (o ≡ None) ⊎ ((a : A) × (o �
 option_cases None = inl refl
 option_cases (Some a) = inr (a, refl)
 
-no_free : {A : Type 0} → ⊥ ⊎ A → A
-no_free (inl f) = absurd f
-no_free (inr a) = a
+no_free : {A : Type 0} (o : Option A) → ((a : A) → o ≡ Some a → ⊥) → o ≡ None
+no_free None f = refl
+no_free (Some a) f = absurd (f a refl)
 
 module _ {K W : Type 0} (T : Tongue K W) where
   -- ---- one token
@@ -52,7 +52,7 @@ module _ {K W : Type 0} (T : Tongue K W) where
             record {
               used = t ∷ [];
               parts = ap (λ u. t ∷ u) (ok_snd t x ts rest f);
-              phrase = (ap (λ u. u ∷ []) is, subst (λ u. can u.kind ≡ true) is here, inr (subst (λ u. limit u ≡ None) is none));
+              phrase = (ap (λ u. u ∷ []) is, subst (λ u. can u.kind ≡ true) is here, λ r f. absurd (let n = subst (λ u. limit u ≡ None) is none in (cc)));
               again = λ other _. pick_good t other here none ∙ ap (λ v. good v other) is;
               wide = λ other _. pick_wide t other here ∙ ap (λ v. good v other) is;
             }
@@ -63,11 +63,11 @@ module _ {K W : Type 0} (T : Tongue K W) where
     Faults = (t : Tok K) (ts : Toks K) (r : Refusal W) → can t.kind ≡ true → limit t ≡ Some r → T.IsFault (t ∷ ts) r
 
     -- a token of the kind that is free
-    clean_pick : (kind : K) → can kind ≡ true → (n : ℕ) → (more : Toks K) × (x : Tok K) × Picked (free_from n) can limit more x
-    clean_pick kind some n = (token_of kind ∷ [], token_of kind, (refl, some, inl (omega arith)))
+    clean_pick : (kind : K) → can kind ≡ true → (n : Waiver W) → (more : Toks K) × (x : Tok K) × Picked (free_by n) can limit more x
+    clean_pick kind some n = (token_of kind ∷ [], token_of kind, (refl, some, λ r e. inl (omega arith)))
 
     pick_refused : Faults → (kind : K) → can kind ≡ true → (ts : Toks K) (r : Refusal W) → pick T false can limit ts ≡ Err r
-        → Refuses T (λ n. Picked (free_from n) can limit) (Picked all_free can limit) (pick T false can limit) (pick T true can limit) ts r
+        → Refuses T (λ n. Picked (free_by n) can limit) (Picked all_free can limit) (pick T false can limit) (pick T true can limit) ts r
     pick_refused faults kind some [] r e =
         let f = sym (pick_gone false [] ends) ∙ e in
         let is : T.refusal [] ≡ r = cc in
@@ -104,21 +104,21 @@ module _ {K W : Type 0} (T : Tongue K W) where
               parts = refl;
               clean = clean_pick kind some;
               stuck = λ u after other heads. (stop.0, subst (λ v. pick T false can limit (v ∷ other) ≡ Err stop.0) (first u after heads) (pick_stopped t other stop.0 here stop.1));
-              reason = inr (record { is = subst (λ s. T.IsFault (t ∷ ts) s) is (faults t ts stop.0 here stop.1); token = t; after = ts; begins = refl; more = []; value = t; goes-on = (refl, here, inl tt) });
+              reason = inr (record { is = subst (λ s. T.IsFault (t ∷ ts) s) is (faults t ts stop.0 here stop.1); token = t; after = ts; begins = refl; more = []; value = t; goes-on = (refl, here, λ s f. inr (let q = stop.1 in (cc))) });
             }
       ]
     ]
 
     -- a token that passes no limit; some token is of such a kind, and each limit is a fault
     pub right_pick : Faults → (kind : K) → can kind ≡ true
-        → Right T Any (Picked none_free can limit) (λ n. Picked (free_from n) can limit) (Picked all_free can limit) always (pick T false can limit) (pick T true can limit)
+        → Right T Any (Picked none_free can limit) (λ n. Picked (free_by n) can limit) (Picked all_free can limit) always (pick T false can limit) (pick T true can limit)
     right_pick faults kind some = record {
       sound = λ ts x rest _ e. pick_sound ts x rest e;
-      narrow = record { all = λ used rest x _ l _. ap (λ u. pick T false can limit (u ++ rest)) l.0 ∙ pick_good x rest l.1 (no_free l.2) };
+      narrow = record { all = λ used rest x _ l _. ap (λ u. pick T false can limit (u ++ rest)) l.0 ∙ pick_good x rest l.1 (no_free (limit x) l.2) };
       wide = record { all = λ used rest x _ l _. ap (λ u. pick T true can limit (u ++ rest)) l.0 ∙ pick_wide x rest l.1 };
       refused = λ ts r _ e. pick_refused faults kind some ts r e;
-      within = λ ts x l. (l.0, l.1, inl tt);
-      keeps = λ n ts x l. (l.0, l.1, inr (no_free l.2));
+      within = λ ts x l. (l.0, l.1, λ r e. tt);
+      keeps = λ n ts x l. (l.0, l.1, λ r e. absurd (l.2 r e));
     }
 
   -- ---- the one or the other
@@ -137,7 +137,7 @@ module _ {K W : Type 0} (T : Tongue K W) where
   gone_false : (goes : K → Bool) (h : K) → gone goes h ≡ true → goes h ≡ false
   gone_false goes h e = elim (bool_cases (goes h)) [ inl here ↦ absurd (let f = rw here at e in (cc)) | inr is ↦ is ]
 
-  module _ {A : Type 0} {goes : K → Bool} {P PV Q QV : Lang K A} {PC QC : ℕ → Lang K A} {S : K → Bool} {p pV q qV : Parser K W A}
+  module _ {A : Type 0} {goes : K → Bool} {P PV Q QV : Lang K A} {PC QC : Waiver W → Lang K A} {S : K → Bool} {p pV q qV : Parser K W A}
       (rp : Right T (λ h. goes h ≡ true) P PC PV S p pV) (rq : Right T (λ h. goes h ≡ false) Q QC QV S q qV)
       (begins : Begins PV (λ h. goes h ≡ true)) (joins : Joins T QV S (gone goes)) where
     -- what goes on with the same first token chooses the same

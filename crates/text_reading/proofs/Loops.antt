@@ -5,7 +5,7 @@ use Rattle.text_reading.specs.declared.stop.Stop.{Stop}
 use Rattle.text_reading.specs.declared.stop.Stop.TheVariants.{Memory, Refused}
 use Rattle.text_reading.specs.Tokens.{Tok, Toks, Tongue, head_kind}
 use Rattle.text_reading.specs.Parsing.{Outcome, Parser, ◌>>=◌, and_then, loop, many, Fails}
-use Rattle.text_reading.specs.Grammar.{Lang, Many, Done, Next}
+use Rattle.text_reading.specs.Grammar.{Lang, Waiver, waived, Many, Done, Next}
 use Rattle.text_reading.proofs.Theory.{Right, Takes, Limit, Begins, Joins, good, ok_fst, ok_snd, bind_ok, bind_err, bool_cases, same_head, ran_again, Again, Any}
 
 nothing_left : {K : Type 0} (ts : Toks K) → length ts ≤ 0 → ts ≡ []
@@ -98,7 +98,7 @@ module _ {K W : Type 0} (T : Tongue K W) where
 
   -- ---- a loop is right
 
-  module _ {A : Type 0} {goes : K → Bool} {Step StepV : A → Lang K A} {StepC : ℕ → A → Lang K A} {S : K → Bool} {step stepV : A → Parser K W A}
+  module _ {A : Type 0} {goes : K → Bool} {Step StepV : A → Lang K A} {StepC : Waiver W → A → Lang K A} {S : K → Bool} {step stepV : A → Parser K W A}
       (each : (a : A) → Right T (λ h. goes h ≡ true) (Step a) (λ n. StepC n a) (StepV a) S (step a) (stepV a))
       (begins : (a : A) → Begins (StepV a) (λ h. goes h ≡ true)) (ends : goes T.end ≡ false) (meets : (h : K) → goes h ≡ true → S h ≡ true) where
     begins_narrow : (a : A) → Begins (Step a) (λ h. goes h ≡ true)
@@ -158,30 +158,32 @@ module _ {K W : Type 0} (T : Tongue K W) where
       used : Toks K
       rest : Toks K
       parts : ts ≡ used ++ rest
-      clean : (n : ℕ) → (more : Toks K) × (x : A) × Many (StepC n) a (used ++ more) x
+      clean : (n : Waiver W) → (more : Toks K) × (x : A) × Many (StepC n) a (used ++ more) x
       stuck : (t : Tok K) (after other : Toks K) → rest ≡ t ∷ after → (m : ℕ) → length (used ++ t ∷ other) ≤ m → (s : Refusal W) × (loop T goes step m a (used ++ t ∷ other) ≡ Err s)
-      reason : LoopPlain a used rest r ⊎ Limit T (Many StepV a) used rest r
+      reason : LoopPlain a used rest r ⊎ Limit T (Many (StepC (waived rest r)) a) used rest r
 
-    limit_step : (a : A) (used rest : Toks K) (r : Refusal W) → Limit T (StepV a) used rest r → Limit T (Many StepV a) used rest r
-    limit_step a used rest r l = record {
+    limit_step : (n : Waiver W) (a : A) (used rest : Toks K) (r : Refusal W) → Limit T (StepC n a) used rest r
+        → Limit T (Many (StepC n) a) used rest r
+    limit_step n a used rest r l = record {
       is = l.is;
       token = l.token;
       after = l.after;
       begins = l.begins;
       more = l.more;
       value = l.value;
-      goes-on = subst (λ u. Many StepV a u l.value) (append-nil (used ++ l.token ∷ l.more)) (Next l.goes-on Done);
+      goes-on = subst (λ u. Many (StepC n) a u l.value) (append-nil (used ++ l.token ∷ l.more)) (Next l.goes-on Done);
     }
 
-    limit_next : (a b : A) (one two rest : Toks K) (r : Refusal W) → StepV a one b → Limit T (Many StepV b) two rest r → Limit T (Many StepV a) (one ++ two) rest r
-    limit_next a b one two rest r s l = record {
+    limit_next : (n : Waiver W) (a b : A) (one two rest : Toks K) (r : Refusal W) → StepC n a one b
+        → Limit T (Many (StepC n) b) two rest r → Limit T (Many (StepC n) a) (one ++ two) rest r
+    limit_next n a b one two rest r s l = record {
       is = l.is;
       token = l.token;
       after = l.after;
       begins = l.begins;
       more = l.more;
       value = l.value;
-      goes-on = subst (λ u. Many StepV a u l.value) (sym (append_assoc one two (l.token ∷ l.more))) (Next s l.goes-on);
+      goes-on = subst (λ u. Many (StepC n) a u l.value) (sym (append_assoc one two (l.token ∷ l.more))) (Next s l.goes-on);
     }
 
     loop_refused : (n : ℕ) (a : A) (ts : Toks K) (r : Refusal W) → length ts ≤ n → loop T goes step n a ts ≡ Err r → LoopRefuses a ts r
@@ -203,7 +205,7 @@ module _ {K W : Type 0} (T : Tongue K W) where
                       stuck = λ t after other is. first_stuck goes step a ts here one.used one.rest one.parts t after other is (one.stuck t after other is);
                       reason = elim one.reason [
                         | inl l ↦ inl (record { is = l.is; stuck = λ t after other is. first_stuck goes stepV a ts here one.used one.rest one.parts t after other is (l.stuck t after other is) })
-                        | inr l ↦ inr (limit_step a one.used one.rest r l)
+                        | inr l ↦ inr (limit_step (waived one.rest r) a one.used one.rest r l)
                       ];
                     }
                 | inr b ↦
@@ -222,7 +224,7 @@ module _ {K W : Type 0} (T : Tongue K W) where
                       stuck = λ t after other is. later_stuck goes step a b.0 ts b.1 one.used two.used two.rest one.again here one.parts two.parts t after other is (g.0, g.1, g.2) (two.stuck t after other is);
                       reason = elim two.reason [
                         | inl l ↦ inl (record { is = l.is; stuck = λ t after other is. later_stuck goes stepV a b.0 ts b.1 one.used two.used two.rest one.wide here one.parts two.parts t after other is (g.0, g.1, g.2) (l.stuck t after other is) })
-                        | inr l ↦ inr (limit_next a b.0 one.used two.used two.rest r inside l)
+                        | inr l ↦ inr (limit_next (waived two.rest r) a b.0 one.used two.used two.rest r ((each a).keeps (waived two.rest r) one.used b.0 one.phrase) l)
                       ];
                     }
               ]
@@ -232,7 +234,7 @@ module _ {K W : Type 0} (T : Tongue K W) where
     many_within Done = Done
     many_within (Next {a = a} {b = b} {ts = ts} one two) = Next ((each a).within ts b one) (many_within two)
 
-    many_keeps : (n : ℕ) {a b : A} {ts : Toks K} → Many Step a ts b → Many (StepC n) a ts b
+    many_keeps : (n : Waiver W) {a b : A} {ts : Toks K} → Many Step a ts b → Many (StepC n) a ts b
     many_keeps n Done = Done
     many_keeps n (Next {a = a} {b = b} {ts = ts} one two) = Next ((each a).keeps n ts b one) (many_keeps n two)
 

@@ -1,11 +1,11 @@
 -- Pieces of a grammar: a parser that is right, a phrase, and the kinds of token with which phrases begin. What has to
 -- hold of kinds so that two pieces fit is a test of all kinds, which computes.
-use Rattle.std.proofs.Common.{◌≡◌, ℕ, ◌≤◌, arith, Bool, true, false, not, ◌&&◌, ◌||◌, List, [], ◌∷◌, ◌++◌, Option, Some, None, Err, ◌⊎◌, inl, inr, refl, sym, ap, subst, ◌∙◌, append-nil}
+use Rattle.std.proofs.Common.{◌≡◌, arith, Bool, true, false, not, ◌&&◌, ◌||◌, List, [], ◌∷◌, ◌++◌, Option, Some, ◌⊎◌, inl, inr, refl, sym, ap, subst, ◌∙◌, append-nil}
 use Rattle.text_reading.specs.declared.stop.Refusal.{Refusal}
 use Rattle.text_reading.specs.Tokens.{Tok, Toks, Tongue, head_kind}
-use Rattle.text_reading.specs.Parsing.{Parser, ◌>>=◌, ◌<$>◌, and_then, pure, expect, pick, either, many}
-use Rattle.text_reading.specs.Grammar.{Lang, Empty, Mark, Picked, none_free, all_free, free_from, Or, Then, Says, Many, Done, Next}
-use Rattle.text_reading.proofs.Theory.{Right, Any, always, Productive, Joins, good, bool_cases, token_of, same_head, same_heads, right_end, right_then, right_says, right_expect, right_at, right_before}
+use Rattle.text_reading.specs.Parsing.{Parser, ◌>>=◌, ◌<$>◌, pure, expect, pick, either, many}
+use Rattle.text_reading.specs.Grammar.{Lang, Waiver, Empty, Mark, Picked, none_free, all_free, free_by, Or, Then, Says, Many, Done, Next}
+use Rattle.text_reading.proofs.Theory.{Right, Any, always, Productive, Joins, token_of, same_head, same_heads, right_end, right_then, right_says, right_expect, right_at, right_before}
 use Rattle.text_reading.proofs.Loops.{stop, right_many}
 use Rattle.text_reading.proofs.Choices.{right_pick, right_either}
 
@@ -76,19 +76,18 @@ abbrev pub repeats : {K : Type 0} → (K → Bool) → (K → Bool) → (K → B
 repeats goes F S h = implies (F h) (goes h) && implies (goes h) (S h)
 
 module _ {K W : Type 0} (T : Tongue K W) where
-  pub record Piece {A : Type 0} (L : Lang K A) (C : ℕ → Lang K A) (V : Lang K A) (first : K → Bool) (empty : Bool) (S : K → Bool)
+  pub record Piece {A : Type 0} (L : Lang K A) (C : Waiver W → Lang K A) (V : Lang K A) (first : K → Bool) (empty : Bool) (S : K → Bool)
       (p pV : Parser K W A) : Type 0 where
     pub right : Right T Any L C V S p pV
-    pub some : Productive V
-    pub clean : (n : ℕ) → Productive (C n)
+    pub some : (n : Waiver W) → Productive (C n)
     pub starts : (ts : Toks K) (x : A) → V ts x → Starts first empty ts
 
   -- ---- the same parsers, on all tokens or on those that begin with such kinds
 
-  module _ {A : Type 0} {L V : Lang K A} {C : ℕ → Lang K A} {S : K → Bool} {p pV : Parser K W A}
+  module _ {A : Type 0} {L V : Lang K A} {C : Waiver W → Lang K A} {S : K → Bool} {p pV : Parser K W A}
       (right : Right T Any L C V S p pV)
       (ok : K → Type 0) (q qV : Parser K W A) (same : (ts : Toks K) → ok (head_kind T ts) → p ts ≡ q ts)
-          (same' : (ts : Toks K) → ok (head_kind T ts) → pV ts ≡ qV ts) where
+      (same' : (ts : Toks K) → ok (head_kind T ts) → pV ts ≡ qV ts) where
     keeps_ok : (ts used rest : Toks K) → ts ≡ used ++ rest → ok (head_kind T ts) → (t : Tok K) (after other : Toks K)
         → rest ≡ t ∷ after → ok (head_kind T (used ++ t ∷ other))
     keeps_ok ts used rest parts h t after other is =
@@ -126,13 +125,12 @@ module _ {K W : Type 0} (T : Tongue K W) where
       keeps = right.keeps;
     }
 
-  pub piece_same : {A : Type 0} {L V : Lang K A} {C : ℕ → Lang K A} {F : K → Bool} {e : Bool} {S : K → Bool} {p pV q qV : Parser K W A}
+  pub piece_same : {A : Type 0} {L V : Lang K A} {C : Waiver W → Lang K A} {F : K → Bool} {e : Bool} {S : K → Bool} {p pV q qV : Parser K W A}
       → Piece L C V F e S p pV → ((ts : Toks K) → p ts ≡ q ts) → ((ts : Toks K) → pV ts ≡ qV ts)
       → Piece L C V F e S q qV
   piece_same {q = q} {qV = qV} one same same' = record {
     right = right_on one.right Any q qV (λ ts _. same ts) (λ ts _. same' ts);
     some = one.some;
-    clean = one.clean;
     starts = one.starts;
   }
 
@@ -141,8 +139,7 @@ module _ {K W : Type 0} (T : Tongue K W) where
   pub piece_pure : {A : Type 0} (S : K → Bool) (a : A) → Piece (Empty a) (λ n. Empty a) (Empty a) never true S (pure a) (pure a)
   piece_pure S a = record {
     right = right_end T S a;
-    some = ([], a, (refl, refl));
-    clean = λ n. ([], a, (refl, refl));
+    some = λ n. ([], a, (refl, refl));
     starts = λ ts x l. inl (l.0, refl);
   }
 
@@ -153,20 +150,18 @@ module _ {K W : Type 0} (T : Tongue K W) where
       (λ h. T.same h kind) false always (expect T kind) (expect T kind)
   piece_expect kind ends = record {
     right = right_expect T kind (no_end kind ends);
-    some = (token_of kind ∷ [], tt, (token_of kind, refl, refl));
-    clean = λ n. (token_of kind ∷ [], tt, (token_of kind, refl, refl));
+    some = λ n. (token_of kind ∷ [], tt, (token_of kind, refl, refl));
     starts = λ ts x l. inr (l.0, [], l.1, ap (λ h. T.same h kind) l.2 ∙ T.same_self kind);
   }
 
   pub piece_pick : (can : K → Bool) (limit : Tok K → Option (Refusal W)) → can T.end ≡ false
       → ((t : Tok K) (ts : Toks K) (r : Refusal W) → limit t ≡ Some r → T.IsFault (t ∷ ts) r) → (kind : K)
       → can kind ≡ true
-      → Piece (Picked none_free can limit) (λ n. Picked (free_from n) can limit) (Picked all_free can limit) can false always
-          (pick T false can limit) (pick T true can limit)
+      → Piece (Picked none_free can limit) (λ n. Picked (free_by n) can limit) (Picked all_free can limit) can false always
+      (pick T false can limit) (pick T true can limit)
   piece_pick can limit ends faults kind is = record {
     right = right_pick T can limit ends (λ t ts r _ e. faults t ts r e) kind is;
-    some = (token_of kind ∷ [], token_of kind, (refl, is, inl tt));
-    clean = λ n. (token_of kind ∷ [], token_of kind, (refl, is, inl (omega arith)));
+    some = λ n. (token_of kind ∷ [], token_of kind, (refl, is, λ r e. inl (omega arith)));
     starts = λ ts x l. inr (x, [], l.0, l.1);
   }
 
@@ -187,13 +182,12 @@ module _ {K W : Type 0} (T : Tongue K W) where
   says_some : {A B : Type 0} {V : Lang K A} (f : A → B) → Productive V → Productive (Says f V)
   says_some f one = (one.0, f one.1, (one.0, [], one.1, sym (append-nil one.0), one.2, (refl, refl)))
 
-  pub piece_says : {A B : Type 0} {P PV : Lang K A} {PC : ℕ → Lang K A} {F : K → Bool} {e : Bool} {S : K → Bool}
+  pub piece_says : {A B : Type 0} {P PV : Lang K A} {PC : Waiver W → Lang K A} {F : K → Bool} {e : Bool} {S : K → Bool}
       {p pV : Parser K W A} (f : A → B) → Piece P PC PV F e S p pV
       → Piece (Says f P) (λ n. Says f (PC n)) (Says f PV) F e S (f <$> p) (f <$> pV)
   piece_says {PV = PV} {F = F} {e = e} f one = record {
     right = right_says T f one.right;
-    some = says_some f one.some;
-    clean = λ n. says_some f (one.clean n);
+    some = λ n. says_some f (one.some n);
     starts = says_starts F e PV f one.starts;
   }
 
@@ -206,11 +200,11 @@ module _ {K W : Type 0} (T : Tongue K W) where
         let h = head_kind T rest in
         let both = both_test e (S' h) none.1 s in
         ap (λ u. S (head_kind T (u ++ rest))) none.0 ∙ by_test (e && S' h) (S h)
-            (right_test (implies (F h) (S h)) (implies (e && S' h) (S h)) (test h)) both
+        (right_test (implies (F h) (S h)) (implies (e && S' h) (S h)) (test h)) both
     | inr b ↦
         let h = b.0.kind in
         ap (λ u. S (head_kind T (u ++ rest))) b.2 ∙ by_test (F h) (S h)
-            (left_test (implies (F h) (S h)) (implies (e && S' h) (S h)) (test h)) b.3
+        (left_test (implies (F h) (S h)) (implies (e && S' h) (S h)) (test h)) b.3
   ]
 
   then_some : {A B : Type 0} (P : Lang K A) (Q : A → Lang K B) → Productive P → ((x : A) → Productive (Q x))
@@ -218,16 +212,15 @@ module _ {K W : Type 0} (T : Tongue K W) where
   then_some P Q one two = let b = two one.1 in (one.0 ++ b.0, b.1, (one.0, b.0, one.1, refl, one.2, b.2))
 
   module _ (N : Kinds K) where
-    pub piece_then : {A B : Type 0} {P PV : Lang K A} {PC : ℕ → Lang K A} {Q QV : A → Lang K B} {QC : ℕ → A → Lang K B} {F F' : K → Bool}
+    pub piece_then : {A B : Type 0} {P PV : Lang K A} {PC : Waiver W → Lang K A} {Q QV : A → Lang K B} {QC : Waiver W → A → Lang K B} {F F' : K → Bool}
         {e : Bool} {S S' : K → Bool} {p pV : Parser K W A} {q qV : A → Parser K W B}
         → Piece P PC PV F false S p pV → ((x : A) → Piece (Q x) (λ n. QC n x) (QV x) F' e S' (q x) (qV x))
         → each (follows F' e S' S) N.list ≡ true
         → Piece (Then P Q) (λ n. Then (PC n) (QC n)) (Then PV QV) F false S' (p >>= q) (pV >>= qV)
     piece_then {PV = PV} {PC = PC} {QV = QV} {QC = QC} {F' = F'} {e = e} {S = S} {S' = S'} one two test = record {
-      right = right_then T one.right (λ x. (two x).right) (λ x. (two x).some) (λ n x. (two x).clean n)
+      right = right_then T one.right (λ x. (two x).right) (λ n x. (two x).some n)
           (λ x. joins_of (QV x) F' S' e S (two x).starts (N.all (follows F' e S' S) test));
-      some = then_some PV QV one.some (λ x. (two x).some);
-      clean = λ n. then_some (PC n) (QC n) (one.clean n) (λ x. (two x).clean n);
+      some = λ n. then_some (PC n) (QC n) (one.some n) (λ x. (two x).some n);
       starts = λ ts y l. elim (one.starts l.0 l.2 l.4) [
         | inl none ↦ absurd (let f = none.1 in (cc))
         | inr b ↦ inr (b.0, b.1 ++ l.1, l.3 ∙ ap (λ u. u ++ l.1) b.2, b.3)
@@ -235,16 +228,15 @@ module _ {K W : Type 0} (T : Tongue K W) where
     }
 
     -- the first one may be empty
-    pub piece_maybe : {A B : Type 0} {P PV : Lang K A} {PC : ℕ → Lang K A} {Q QV : A → Lang K B} {QC : ℕ → A → Lang K B} {F F' : K → Bool}
+    pub piece_maybe : {A B : Type 0} {P PV : Lang K A} {PC : Waiver W → Lang K A} {Q QV : A → Lang K B} {QC : Waiver W → A → Lang K B} {F F' : K → Bool}
         {e e' : Bool} {S S' : K → Bool} {p pV : Parser K W A} {q qV : A → Parser K W B}
         → Piece P PC PV F e S p pV → ((x : A) → Piece (Q x) (λ n. QC n x) (QV x) F' e' S' (q x) (qV x))
         → each (follows F' e' S' S) N.list ≡ true
         → Piece (Then P Q) (λ n. Then (PC n) (QC n)) (Then PV QV) (one_of F F') e' S' (p >>= q) (pV >>= qV)
     piece_maybe {PV = PV} {PC = PC} {QV = QV} {QC = QC} {F = F} {F' = F'} {e' = e'} {S = S} {S' = S'} one two test = record {
-      right = right_then T one.right (λ x. (two x).right) (λ x. (two x).some) (λ n x. (two x).clean n)
+      right = right_then T one.right (λ x. (two x).right) (λ n x. (two x).some n)
           (λ x. joins_of (QV x) F' S' e' S (two x).starts (N.all (follows F' e' S' S) test));
-      some = then_some PV QV one.some (λ x. (two x).some);
-      clean = λ n. then_some (PC n) (QC n) (one.clean n) (λ x. (two x).clean n);
+      some = λ n. then_some (PC n) (QC n) (one.some n) (λ x. (two x).some n);
       starts = λ ts y l. elim (one.starts l.0 l.2 l.4) [
         | inl none ↦ elim ((two l.2).starts l.1 y l.5) [
           | inl none' ↦ inl (l.3 ∙ ap (λ u. u ++ l.1) none.0 ∙ none'.0, none'.1)
@@ -256,7 +248,7 @@ module _ {K W : Type 0} (T : Tongue K W) where
 
     -- ---- the one or the other
 
-    module _ {A : Type 0} {P PV Q QV : Lang K A} {PC QC : ℕ → Lang K A} {F F' : K → Bool} {e : Bool} {S1 S2 : K → Bool}
+    module _ {A : Type 0} {P PV Q QV : Lang K A} {PC QC : Waiver W → Lang K A} {F F' : K → Bool} {e : Bool} {S1 S2 : K → Bool}
         {p pV q' qV' : Parser K W A} (goes S : K → Bool) (one : Piece P PC PV F false S1 p pV) (two : Piece Q QC QV F' e S2 q' qV')
         (test : each (parted goes F S1 F' e S2 S) N.list ≡ true) where
       parted_at : (h : K) → parted goes F S1 F' e S2 S h ≡ true
@@ -294,8 +286,7 @@ module _ {K W : Type 0} (T : Tongue K W) where
           λ ts x l. elim (one.starts ts x l) [ inl none ↦ absurd (let f = none.1 in (cc)) | inr b ↦ (b.0, b.1, b.2, first_goes b.0.kind b.3) ] in
           record {
             right = right_either T left other begins (joins_of QV F' S e (away goes) two.starts follows_at);
-            some = (one.some.0, one.some.1, inl one.some.2);
-            clean = λ n. let c = one.clean n in (c.0, c.1, inl c.2);
+            some = λ n. let c = one.some n in (c.0, c.1, inl c.2);
             starts = λ ts x l. elim l [
               | inl l1 ↦ elim (one.starts ts x l1) [ inl none ↦ absurd (let f = none.1 in (cc)) | inr b ↦ inr (b.0, b.1, b.2, or_left (F b.0.kind) (F' b.0.kind) b.3) ]
               | inr l2 ↦ elim (two.starts ts x l2) [ inl none ↦ inl none | inr b ↦ inr (b.0, b.1, b.2, or_right (F b.0.kind) (F' b.0.kind) b.3) ]
@@ -313,7 +304,7 @@ module _ {K W : Type 0} (T : Tongue K W) where
     many_starts goes starts on Done = inl (refl, refl)
     many_starts goes starts on (Next {a = a} {b = b} {ts = ts} {us = us} one two) = elim (starts a ts b one) [ inl none ↦ absurd (let f = none.1 in (cc)) | inr b ↦ inr (b.0, b.1 ++ us, ap (λ u. u ++ us) b.2, on b.0.kind b.3) ]
 
-    pub piece_many : {A : Type 0} {Step StepV : A → Lang K A} {StepC : ℕ → A → Lang K A} {F S : K → Bool} {step stepV : A → Parser K W A}
+    pub piece_many : {A : Type 0} {Step StepV : A → Lang K A} {StepC : Waiver W → A → Lang K A} {F S : K → Bool} {step stepV : A → Parser K W A}
         (goes : K → Bool) → ((a : A) → Piece (Step a) (λ n. StepC n a) (StepV a) F false S (step a) (stepV a)) → goes T.end ≡ false
         → each (repeats goes F S) N.list ≡ true → (a : A)
         → Piece (Many Step a) (λ n. Many (StepC n) a) (Many StepV a) goes true (stop goes S) (many T goes step a) (many T goes stepV a)
@@ -326,14 +317,13 @@ module _ {K W : Type 0} (T : Tongue K W) where
         λ b ts x l. elim ((turns b).starts ts x l) [ inl none ↦ absurd (let f = none.1 in (cc)) | inr s ↦ (s.0, s.1, s.2, on s.0.kind s.3) ] in
         record {
           right = right_many T turn begins ends meets a;
-          some = ([], a, Done);
-          clean = λ n. ([], a, Done);
+          some = λ n. ([], a, Done);
           starts = λ ts x l. many_starts goes (λ b. (turns b).starts) on l;
         }
 
     -- ---- with fewer kinds to stop before, and more to begin with
 
-    pub piece_fit : {A : Type 0} {L V : Lang K A} {C : ℕ → Lang K A} {F F' : K → Bool} {e : Bool} {S S' : K → Bool}
+    pub piece_fit : {A : Type 0} {L V : Lang K A} {C : Waiver W → Lang K A} {F F' : K → Bool} {e : Bool} {S S' : K → Bool}
         {p pV : Parser K W A} → Piece L C V F e S p pV → each (narrower F S F' S') N.list ≡ true → Piece L C V F' e S' p pV
     piece_fit {F = F} {F' = F'} {S = S} {S' = S'} one test =
         let at = N.all (narrower F S F' S') test in
@@ -341,7 +331,6 @@ module _ {K W : Type 0} (T : Tongue K W) where
           right = right_before T S'
               (λ h. by_test (S' h) (S h) (right_test (implies (F h) (F' h)) (implies (S' h) (S h)) (at h))) one.right;
           some = one.some;
-          clean = one.clean;
           starts = λ ts x l. elim (one.starts ts x l) [
             | inl none ↦ inl none
             | inr b ↦ inr (b.0, b.1, b.2, by_test (F b.0.kind) (F' b.0.kind) (left_test (implies (F b.0.kind) (F' b.0.kind)) (implies (S' b.0.kind) (S b.0.kind)) (at b.0.kind)) b.3)

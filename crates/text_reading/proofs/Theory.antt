@@ -1,9 +1,9 @@
 -- Parsers that read exactly the phrases of a grammar, and refuse at the first token that can't follow.
-use Rattle.std.proofs.Common.{◌≡◌, ℕ, Bool, true, false, [], ◌∷◌, ◌++◌, drop, Ok, Err, ◌⊎◌, inl, inr, refl, sym, ap, subst, ◌∙◌, append_assoc}
+use Rattle.std.proofs.Common.{◌≡◌, Bool, true, false, [], ◌∷◌, ◌++◌, drop, Ok, Err, ◌⊎◌, inl, inr, refl, sym, ap, subst, ◌∙◌, append_assoc}
 use Rattle.text_reading.specs.declared.stop.Refusal.{Refusal}
 use Rattle.text_reading.specs.Tokens.{Bytes, Tok, Toks, Tongue, head_kind}
 use Rattle.text_reading.specs.Parsing.{Outcome, Parser, ◌>>=◌, ◌<$>◌, and_then, pure, take_token, choose, sees, expect}
-use Rattle.text_reading.specs.Grammar.{Lang, Empty, Token, Mark, Then, Says, First}
+use Rattle.text_reading.specs.Grammar.{Lang, Waiver, waived, Empty, Token, Mark, Then, Says, First}
 
 abbrev pub Any : {K : Type 0} → K → Type 0
 Any _ = Unit {0}
@@ -76,7 +76,7 @@ module _ {K W : Type 0} (T : Tongue K W) where
     pub is : r ≡ T.refusal rest
     pub stuck : (t : Tok K) (after other : Toks K) → rest ≡ t ∷ after → (s : Refusal W) × (pV (used ++ t ∷ other) ≡ Err s)
 
-  -- Only a limit keeps the token from standing there.
+  -- Only this refusal keeps the token from standing there.
   pub record Limit {A : Type 0} (V : Lang K A) (used rest : Toks K) (r : Refusal W) : Type 0 where
     pub is : T.IsFault rest r
     pub token : Tok K
@@ -87,14 +87,14 @@ module _ {K W : Type 0} (T : Tongue K W) where
     pub goes-on : V (used ++ token ∷ more) value
 
   -- What was read before the refused token begins a phrase of each C. With that token, whatever follows, p refuses it.
-  pub record Refuses {A : Type 0} (C : ℕ → Lang K A) (V : Lang K A) (p pV : Parser K W A) (ts : Toks K) (r : Refusal W)
+  pub record Refuses {A : Type 0} (C : Waiver W → Lang K A) (V : Lang K A) (p pV : Parser K W A) (ts : Toks K) (r : Refusal W)
       : Type 0 where
     pub used : Toks K
     pub rest : Toks K
     pub parts : ts ≡ used ++ rest
-    pub clean : (n : ℕ) → (more : Toks K) × (x : A) × C n (used ++ more) x
+    pub clean : (n : Waiver W) → (more : Toks K) × (x : A) × C n (used ++ more) x
     pub stuck : (t : Tok K) (after other : Toks K) → rest ≡ t ∷ after → (s : Refusal W) × (p (used ++ t ∷ other) ≡ Err s)
-    pub reason : Plain pV used rest r ⊎ Limit V used rest r
+    pub reason : Plain pV used rest r ⊎ Limit (C (waived rest r)) used rest r
 
   -- What was taken is a phrase, and what comes behind the next kind doesn't matter.
   pub record Accepts {A : Type 0} (L : Lang K A) (p pV : Parser K W A) (ts : Toks K) (x : A) (rest : Toks K) : Type 0 where
@@ -110,14 +110,14 @@ module _ {K W : Type 0} (T : Tongue K W) where
 
   -- On inputs that begin with a kind that is ok, p takes exactly the phrases of L that stand before a kind at which it stops.
   -- V and pV are the grammar and the parser without the limits. Each C has the phrases of L, and those on which it can go on.
-  pub record Right {A : Type 0} (ok : K → Type 0) (L : Lang K A) (C : ℕ → Lang K A) (V : Lang K A) (S : K → Bool)
+  pub record Right {A : Type 0} (ok : K → Type 0) (L : Lang K A) (C : Waiver W → Lang K A) (V : Lang K A) (S : K → Bool)
       (p pV : Parser K W A) : Type 0 where
     pub sound : (ts : Toks K) (x : A) (rest : Toks K) → ok (head_kind T ts) → p ts ≡ Ok (x, rest) → Accepts L p pV ts x rest
     pub narrow : Takes ok L S p
     pub wide : Takes ok V S pV
     pub refused : (ts : Toks K) (r : Refusal W) → ok (head_kind T ts) → p ts ≡ Err r → Refuses C V p pV ts r
     pub within : (ts : Toks K) (x : A) → L ts x → V ts x
-    pub keeps : (n : ℕ) (ts : Toks K) (x : A) → L ts x → C n ts x
+    pub keeps : (n : Waiver W) (ts : Toks K) (x : A) → L ts x → C n ts x
 
   -- Before a phrase that stands before a kind of S', the kind is of S.
   abbrev pub Joins : {A : Type 0} → Lang K A → (K → Bool) → (K → Bool) → Type 0
@@ -197,10 +197,10 @@ module _ {K W : Type 0} (T : Tongue K W) where
     goes-on = (one, two ++ l.token ∷ l.more, x, append_assoc one two (l.token ∷ l.more), phrase, l.goes-on);
   }
 
-  module _ {A B : Type 0} {ok : K → Type 0} {P PV : Lang K A} {PC : ℕ → Lang K A} {Q QV : A → Lang K B} {QC : ℕ → A → Lang K B} {S S' : K → Bool}
+  module _ {A B : Type 0} {ok : K → Type 0} {P PV : Lang K A} {PC : Waiver W → Lang K A} {Q QV : A → Lang K B} {QC : Waiver W → A → Lang K B} {S S' : K → Bool}
       {p pV : Parser K W A} {q qV : A → Parser K W B} (rp : Right ok P PC PV S p pV)
-      (rq : (x : A) → Right Any (Q x) (λ n. QC n x) (QV x) S' (q x) (qV x)) (goes : (x : A) → Productive (QV x))
-      (goes' : (n : ℕ) (x : A) → Productive (QC n x))
+      (rq : (x : A) → Right Any (Q x) (λ n. QC n x) (QV x) S' (q x) (qV x))
+      (goes : (n : Waiver W) (x : A) → Productive (QC n x))
       (joins : (x : A) → Joins (QV x) S' S) where
     then_sound : (ts : Toks K) (y : B) (rest : Toks K) → ok (head_kind T ts) → (p >>= q) ts ≡ good y rest → Accepts (Then P Q) (p >>= q) (pV >>= qV) ts y rest
     then_sound ts y rest h e =
@@ -229,15 +229,14 @@ module _ {K W : Type 0} (T : Tongue K W) where
                 parts = one.parts;
                 clean = λ n.
                     let c = one.clean n in
-                    let g = goes' n c.1 in
+                    let g = goes n c.1 in
                     (c.0 ++ g.0, g.1, (one.used ++ c.0, g.0, c.1, sym (append_assoc one.used c.0 g.0), c.2, g.2));
                 stuck = λ t after other is. let s = one.stuck t after other is in (s.0, ap (λ o. and_then o q) s.1);
-                reason = elim one.reason [ inl l ↦ inl (plain_first l) | inr l ↦ inr (limit_first goes l) ];
+                reason = elim one.reason [ inl l ↦ inl (plain_first l) | inr l ↦ inr (limit_first (goes (waived one.rest r)) l) ];
               }
           | inr b ↦
               let one = rp.sound ts b.0 b.1 h b.2 in
               let two = (rq b.0).refused b.1 r tt b.3 in
-              let inside = rp.within one.used b.0 one.phrase in
               record {
                 used = one.used ++ two.used;
                 rest = two.rest;
@@ -258,7 +257,7 @@ module _ {K W : Type 0} (T : Tongue K W) where
                         let ran = ran_again pV b.1 one.used two.used two.rest b.0 one.wide two.parts (t ∷ other) (ap (head_kind T) (sym is)) in
                         (s.0, ap (λ o. and_then o qV) ran ∙ s.1);
                   })
-                  | inr l ↦ inr (limit_later one.used two.used b.0 inside l)
+                  | inr l ↦ inr (limit_later one.used two.used b.0 (rp.keeps (waived two.rest r) one.used b.0 one.phrase) l)
                 ];
               }
         ]
@@ -277,10 +276,10 @@ module _ {K W : Type 0} (T : Tongue K W) where
   joins_empty a S back rest y l s = ap (λ u. S (head_kind T (u ++ rest))) l.0 ∙ s
 
   -- f of what a parser answers
-  pub right_says : {A B : Type 0} {ok : K → Type 0} {P PV : Lang K A} {PC : ℕ → Lang K A} {S : K → Bool} {p pV : Parser K W A} (f : A → B)
+  pub right_says : {A B : Type 0} {ok : K → Type 0} {P PV : Lang K A} {PC : Waiver W → Lang K A} {S : K → Bool} {p pV : Parser K W A} (f : A → B)
       → Right ok P PC PV S p pV → Right ok (Says f P) (λ n. Says f (PC n)) (Says f PV) S (f <$> p) (f <$> pV)
   right_says {S = S} f rp =
-      right_then rp (λ x. right_end S (f x)) (λ x. ([], f x, (refl, refl))) (λ n x. ([], f x, (refl, refl))) (λ x. joins_empty (f x) S)
+      right_then rp (λ x. right_end S (f x)) (λ n x. ([], f x, (refl, refl))) (λ x. joins_empty (f x) S)
 
   -- ---- one token
 
@@ -362,11 +361,12 @@ module _ {K W : Type 0} (T : Tongue K W) where
   -- ---- by the kind of the first token
 
   -- The alternative of a kind: a parser that is right, one that only passes a limit, or nothing.
-  pub data Alternative {A : Type 0} (By : K → Lang K A) (ByC : ℕ → K → Lang K A) (ByV : K → Lang K A) (S : K → Bool) (by byV : K → Parser K W A) (kind : K) : Type 0 where
+  pub data Alternative {A : Type 0} (By : K → Lang K A) (ByC : Waiver W → K → Lang K A) (ByV : K → Lang K A) (S : K → Bool) (by byV : K → Parser K W A) (kind : K) : Type 0 where
     Reads : Right (λ h. h ≡ kind) (By kind) (λ n. ByC n kind) (ByV kind) S (by kind) (byV kind) → NonEmpty (ByV kind) → ((ts : Toks K) (x : A) → ByV kind ts x → First T ByV ts x)
-        → ((n : ℕ) (ts : Toks K) (x : A) → ByC n kind ts x → First T (ByC n) ts x) → Alternative By ByC ByV S by byV kind
+        → ((n : Waiver W) (ts : Toks K) (x : A) → ByC n kind ts x → First T (ByC n) ts x) → Alternative By ByC ByV S by byV kind
     Limits : (kind ≡ T.end → ⊥) → ((ts : Toks K) (x : A) → By kind ts x → ⊥) → ((ts : Toks K) → (r : Refusal W) × (by kind ts ≡ Err r) × T.IsFault ts r) → Takes (λ h. h ≡ kind) (ByV kind) S (byV kind) → NonEmpty (ByV kind)
-        → ((t : Tok K) → t.kind ≡ kind → (more : Toks K) × (x : A) × First T ByV (t ∷ more) x) → Alternative By ByC ByV S by byV kind
+        → ((t : Tok K) (ts : Toks K) (r : Refusal W) → t.kind ≡ kind → by kind (t ∷ ts) ≡ Err r → (more : Toks K) × (x : A) × First T (ByC (waived (t ∷ ts) r)) (t ∷ more) x)
+        → Alternative By ByC ByV S by byV kind
     Leaves : ((ts : Toks K) (x : A) → ByV kind ts x → ⊥) → ((ts : Toks K) (x : A) → By kind ts x → ⊥) → ((ts : Toks K) → by kind ts ≡ Err (T.refusal ts)) → ((ts : Toks K) → byV kind ts ≡ Err (T.refusal ts)) → Alternative By ByC ByV S by byV kind
 
   by_head : {A : Type 0} (kind : K) (L : Lang K A) (used rest : Toks K) (x : A) → NonEmpty L → L used x → head_kind T (used ++ rest) ≡ head_kind T used
@@ -379,7 +379,7 @@ module _ {K W : Type 0} (T : Tongue K W) where
       let heads : head_kind T ts ≡ head_kind T (used ++ t ∷ other) = ap (head_kind T) (parts ∙ ap (λ u. used ++ u) is) ∙ same_head used t after other in
       (f.0, ap (λ g. by g (used ++ t ∷ other)) (sym heads) ∙ f.1)
 
-  sound_by : {A : Type 0} {By ByV : K → Lang K A} {ByC : ℕ → K → Lang K A} {S : K → Bool} {by byV : K → Parser K W A} (kind : K) → Alternative By ByC ByV S by byV kind
+  sound_by : {A : Type 0} {By ByV : K → Lang K A} {ByC : Waiver W → K → Lang K A} {S : K → Bool} {by byV : K → Parser K W A} (kind : K) → Alternative By ByC ByV S by byV kind
       → (ts : Toks K) (x : A) (rest : Toks K) → head_kind T ts ≡ kind → by kind ts ≡ good x rest → Accepts (First T By) (choose T by) (choose T byV) ts x rest
   sound_by {By = By} {by = by} {byV = byV} kind (Reads right some to to') ts x rest h e =
       let one = right.sound ts x rest h e in
@@ -396,7 +396,7 @@ module _ {K W : Type 0} (T : Tongue K W) where
   sound_by kind (Limits no-end none errs wide some goes) ts x rest h e = absurd (let f = (errs ts).1 in (cc))
   sound_by kind (Leaves none none' errs errsV) ts x rest h e = absurd (let f = errs ts in (cc))
 
-  narrow_by : {A : Type 0} {By ByV : K → Lang K A} {ByC : ℕ → K → Lang K A} {S : K → Bool} {by byV : K → Parser K W A} (kind : K) → Alternative By ByC ByV S by byV kind
+  narrow_by : {A : Type 0} {By ByV : K → Lang K A} {ByC : Waiver W → K → Lang K A} {S : K → Bool} {by byV : K → Parser K W A} (kind : K) → Alternative By ByC ByV S by byV kind
       → (used rest : Toks K) (x : A) → head_kind T used ≡ kind → By kind used x → S (head_kind T rest) ≡ true → choose T by (used ++ rest) ≡ good x rest
   narrow_by {by = by} kind (Reads right some to to') used rest x h l s =
       let is = by_head kind _ used rest x some (right.within used x l) ∙ h in
@@ -404,7 +404,7 @@ module _ {K W : Type 0} (T : Tongue K W) where
   narrow_by kind (Limits no-end none errs wide some goes) used rest x h l s = absurd (none used x l)
   narrow_by kind (Leaves none none' errs errsV) used rest x h l s = absurd (none' used x l)
 
-  wide_by : {A : Type 0} {By ByV : K → Lang K A} {ByC : ℕ → K → Lang K A} {S : K → Bool} {by byV : K → Parser K W A} (kind : K) → Alternative By ByC ByV S by byV kind
+  wide_by : {A : Type 0} {By ByV : K → Lang K A} {ByC : Waiver W → K → Lang K A} {S : K → Bool} {by byV : K → Parser K W A} (kind : K) → Alternative By ByC ByV S by byV kind
       → (used rest : Toks K) (x : A) → head_kind T used ≡ kind → ByV kind used x → S (head_kind T rest) ≡ true → choose T byV (used ++ rest) ≡ good x rest
   wide_by {byV = byV} kind (Reads right some to to') used rest x h l s =
       let is = by_head kind _ used rest x some l ∙ h in
@@ -414,13 +414,13 @@ module _ {K W : Type 0} (T : Tongue K W) where
       ap (λ g. byV g (used ++ rest)) is ∙ wide.all used rest x is l s
   wide_by kind (Leaves none none' errs errsV) used rest x h l s = absurd (none used x l)
 
-  within_by : {A : Type 0} {By ByV : K → Lang K A} {ByC : ℕ → K → Lang K A} {S : K → Bool} {by byV : K → Parser K W A} (kind : K) → Alternative By ByC ByV S by byV kind → (ts : Toks K) (x : A) → By kind ts x → ByV kind ts x
+  within_by : {A : Type 0} {By ByV : K → Lang K A} {ByC : Waiver W → K → Lang K A} {S : K → Bool} {by byV : K → Parser K W A} (kind : K) → Alternative By ByC ByV S by byV kind → (ts : Toks K) (x : A) → By kind ts x → ByV kind ts x
   within_by kind (Reads right some to to') ts x l = right.within ts x l
   within_by kind (Limits no-end none errs wide some goes) ts x l = absurd (none ts x l)
   within_by kind (Leaves none none' errs errsV) ts x l = absurd (none' ts x l)
 
-  keeps_by : {A : Type 0} {By ByV : K → Lang K A} {ByC : ℕ → K → Lang K A} {S : K → Bool} {by byV : K → Parser K W A} (kind : K)
-      → Alternative By ByC ByV S by byV kind → (n : ℕ) (ts : Toks K) (x : A) → By kind ts x → ByC n kind ts x
+  keeps_by : {A : Type 0} {By ByV : K → Lang K A} {ByC : Waiver W → K → Lang K A} {S : K → Bool} {by byV : K → Parser K W A} (kind : K)
+      → Alternative By ByC ByV S by byV kind → (n : Waiver W) (ts : Toks K) (x : A) → By kind ts x → ByC n kind ts x
   keeps_by kind (Reads right some to to') n ts x l = right.keeps n ts x l
   keeps_by kind (Limits no-end none errs wide some goes) n ts x l = absurd (none ts x l)
   keeps_by kind (Leaves none none' errs errsV) n ts x l = absurd (none' ts x l)
@@ -428,9 +428,9 @@ module _ {K W : Type 0} (T : Tongue K W) where
   limit_to : {A : Type 0} {V V' : Lang K A} {used rest : Toks K} {r : Refusal W} → ((ts : Toks K) (x : A) → V ts x → V' ts x) → Limit V used rest r → Limit V' used rest r
   limit_to {used = used} f l = record { is = l.is; token = l.token; after = l.after; begins = l.begins; more = l.more; value = l.value; goes-on = f (used ++ l.token ∷ l.more) l.value l.goes-on }
 
-  refused_by : {A : Type 0} {By ByV : K → Lang K A} {ByC : ℕ → K → Lang K A} {S : K → Bool} {by byV : K → Parser K W A} (kind : K) → Alternative By ByC ByV S by byV kind → Productive (First T ByV) → ((n : ℕ) → Productive (First T (ByC n)))
+  refused_by : {A : Type 0} {By ByV : K → Lang K A} {ByC : Waiver W → K → Lang K A} {S : K → Bool} {by byV : K → Parser K W A} (kind : K) → Alternative By ByC ByV S by byV kind → ((n : Waiver W) → Productive (First T (ByC n)))
       → (ts : Toks K) (r : Refusal W) → head_kind T ts ≡ kind → by (head_kind T ts) ts ≡ Err r → Refuses (λ n. First T (ByC n)) (First T ByV) (choose T by) (choose T byV) ts r
-  refused_by {by = by} {byV = byV} kind (Reads right some to to') goes goes' ts r h e =
+  refused_by {by = by} {byV = byV} kind (Reads right some to to') goes ts r h e =
       let one = right.refused ts r h (ap (λ g. by g ts) (sym h) ∙ e) in
       record {
         used = one.used;
@@ -440,47 +440,47 @@ module _ {K W : Type 0} (T : Tongue K W) where
         stuck = λ t after other is. choose_again by ts one.used one.rest one.parts t after other is (let s = one.stuck t after other is in (s.0, ap (λ g. by g (one.used ++ t ∷ other)) h ∙ s.1));
         reason = elim one.reason [
           | inl l ↦ inl (record { is = l.is; stuck = λ t after other is. choose_again byV ts one.used one.rest one.parts t after other is (let s = l.stuck t after other is in (s.0, ap (λ g. byV g (one.used ++ t ∷ other)) h ∙ s.1)) })
-          | inr l ↦ inr (limit_to to l)
+          | inr l ↦ inr (limit_to (to' (waived one.rest r)) l)
         ];
       }
-  refused_by {by = by} {byV = byV} kind (Leaves none none' errs errsV) goes goes' ts r h e =
+  refused_by {by = by} {byV = byV} kind (Leaves none none' errs errsV) goes ts r h e =
       let is : r ≡ T.refusal ts = let f = ap (λ g. by g ts) (sym h) ∙ e in let g = errs ts in (cc) in
       record {
         used = [];
         rest = ts;
         parts = refl;
-        clean = goes';
+        clean = goes;
         stuck = λ t after other is. choose_again by ts [] ts refl t after other is (T.refusal (t ∷ other), ap (λ g. by g (t ∷ other)) h ∙ errs (t ∷ other));
         reason = inl (record { is = is; stuck = λ t after other is. choose_again byV ts [] ts refl t after other is (T.refusal (t ∷ other), ap (λ g. byV g (t ∷ other)) h ∙ errsV (t ∷ other)) });
       }
-  refused_by {by = by} {byV = byV} kind (Limits no-end none errs wide some goes-on) goes goes' [] r h e = absurd (no-end (sym h))
-  refused_by {ByV = ByV} {by = by} {byV = byV} kind (Limits no-end none errs wide some goes-on) goes goes' (t ∷ ts) r h e =
+  refused_by {by = by} {byV = byV} kind (Limits no-end none errs wide some goes-on) goes [] r h e = absurd (no-end (sym h))
+  refused_by {ByV = ByV} {by = by} {byV = byV} kind (Limits no-end none errs wide some goes-on) goes (t ∷ ts) r h e =
       let g = errs (t ∷ ts) in
       let is : g.0 ≡ r = let f = ap (λ k. by k (t ∷ ts)) (sym h) ∙ e in let e' = g.1 in (cc) in
-      let on = goes-on t h in
+      let on = goes-on t ts r h (ap (λ k. by k (t ∷ ts)) (sym h) ∙ e) in
       record {
         used = [];
         rest = t ∷ ts;
         parts = refl;
-        clean = goes';
+        clean = goes;
         stuck = λ u after other is'. choose_again by (t ∷ ts) [] (t ∷ ts) refl u after other is' (let s = errs (u ∷ other) in (s.0, ap (λ g. by g (u ∷ other)) h ∙ s.1));
         reason = inr (record { is = subst (λ s. T.IsFault (t ∷ ts) s) is g.2; token = t; after = ts; begins = refl; more = on.0; value = on.1; goes-on = on.2 });
       }
 
-  pub right_first : {A : Type 0} {By ByV : K → Lang K A} {ByC : ℕ → K → Lang K A} {S : K → Bool} {by byV : K → Parser K W A} → ((kind : K) → Alternative By ByC ByV S by byV kind) → Productive (First T ByV) → ((n : ℕ) → Productive (First T (ByC n)))
+  pub right_first : {A : Type 0} {By ByV : K → Lang K A} {ByC : Waiver W → K → Lang K A} {S : K → Bool} {by byV : K → Parser K W A} → ((kind : K) → Alternative By ByC ByV S by byV kind) → ((n : Waiver W) → Productive (First T (ByC n)))
       → Right Any (First T By) (λ n. First T (ByC n)) (First T ByV) S (choose T by) (choose T byV)
-  right_first each goes goes' = record {
+  right_first each goes = record {
     sound = λ ts x rest _ e. sound_by (head_kind T ts) (each (head_kind T ts)) ts x rest refl e;
     narrow = record { all = λ used rest x _ l s. narrow_by (head_kind T used) (each (head_kind T used)) used rest x refl l s };
     wide = record { all = λ used rest x _ l s. wide_by (head_kind T used) (each (head_kind T used)) used rest x refl l s };
-    refused = λ ts r _ e. refused_by (head_kind T ts) (each (head_kind T ts)) goes goes' ts r refl e;
+    refused = λ ts r _ e. refused_by (head_kind T ts) (each (head_kind T ts)) goes ts r refl e;
     within = λ ts x l. within_by (head_kind T ts) (each (head_kind T ts)) ts x l;
     keeps = λ n ts x l. keeps_by (head_kind T ts) (each (head_kind T ts)) n ts x l;
   }
 
   -- ---- the same parser for fewer inputs
 
-  pub right_at : {A : Type 0} {ok ok' : K → Type 0} {L V : Lang K A} {C : ℕ → Lang K A} {S : K → Bool} {p pV : Parser K W A} → ((h : K) → ok' h → ok h) → Right ok L C V S p pV → Right ok' L C V S p pV
+  pub right_at : {A : Type 0} {ok ok' : K → Type 0} {L V : Lang K A} {C : Waiver W → Lang K A} {S : K → Bool} {p pV : Parser K W A} → ((h : K) → ok' h → ok h) → Right ok L C V S p pV → Right ok' L C V S p pV
   right_at f right = record {
     sound = λ ts x rest h e. right.sound ts x rest (f (head_kind T ts) h) e;
     narrow = record { all = λ used rest x h l s. right.narrow.all used rest x (f (head_kind T (used ++ rest)) h) l s };
@@ -503,7 +503,7 @@ module _ {K W : Type 0} (T : Tongue K W) where
   to_first By kind h ts x l = let b = h ts x l in subst (λ g. By g ts x) (sym (ap (head_kind T) b.2 ∙ b.3)) l
 
   -- a parser that is asked to stop at fewer kinds
-  pub right_before : {A : Type 0} {ok : K → Type 0} {L V : Lang K A} {C : ℕ → Lang K A} {S : K → Bool} {p pV : Parser K W A} (S' : K → Bool) → ((h : K) → S' h ≡ true → S h ≡ true) → Right ok L C V S p pV → Right ok L C V S' p pV
+  pub right_before : {A : Type 0} {ok : K → Type 0} {L V : Lang K A} {C : Waiver W → Lang K A} {S : K → Bool} {p pV : Parser K W A} (S' : K → Bool) → ((h : K) → S' h ≡ true → S h ≡ true) → Right ok L C V S p pV → Right ok L C V S' p pV
   right_before S' f right = record {
     sound = right.sound;
     narrow = record { all = λ used rest x h l s. right.narrow.all used rest x h l (f (head_kind T rest) s) };

@@ -1,7 +1,7 @@
 -- Grammars: which tokens are a phrase, and what the phrase says.
-use Rattle.std.specs.Prelude.{Option, Some, None, ◌⊎◌, ◌≡◌, ℕ, ◌≤◌, Bool, true, [], ◌∷◌, ◌++◌}
+use Rattle.std.specs.Prelude.{Option, Some, None, ◌⊎◌, ◌≡◌, ℕ, ◌≤◌, ◌-◌, Bool, true, [], ◌∷◌, ◌++◌}
 use Rattle.text_reading.specs.declared.stop.Refusal.{Refusal}
-use Rattle.text_reading.specs.Tokens.{Bytes, Tok, Toks, Tongue, head_kind}
+use Rattle.text_reading.specs.Tokens.{Bytes, Tok, Toks, Tongue, head_kind, left}
 
 abbrev pub Lang : Type 0 → Type 0 → Type 1
 Lang K A = Toks K → A → Type 0
@@ -22,21 +22,33 @@ Token {K} kind ts x = (t : Tok K) × (ts ≡ t ∷ []) × (t.kind ≡ kind) × (
 abbrev pub Mark : {K : Type 0} → K → Lang K (Unit {0})
 Mark {K} kind ts x = (t : Tok K) × (ts ≡ t ∷ []) × (t.kind ≡ kind)
 
--- one token of such a kind, which says itself; it passes no limit, unless it is one of those that are free
-abbrev pub Picked : {K W : Type 0} → (Tok K → Type 0) → (K → Bool) → (Tok K → Option (Refusal W)) → Lang K (Tok K)
-Picked free can limit ts t = (ts ≡ t ∷ []) × (can t.kind ≡ true) × (free t ⊎ (limit t ≡ None))
+-- one token of such a kind, which says itself; it meets no limit, but for those of which it is free
+abbrev pub Picked : {K W : Type 0} → (Tok K → Refusal W → Type 0) → (K → Bool) → (Tok K → Option (Refusal W)) → Lang K (Tok K)
+Picked {K} {W} free can limit ts t = (ts ≡ t ∷ []) × (can t.kind ≡ true) × ((r : Refusal W) → limit t ≡ Some r → free t r)
 
--- limits count for all tokens
-abbrev pub none_free : {K : Type 0} → Tok K → Type 0
-none_free t = ⊥
+-- ---- which tokens are free of which limits
 
--- limits count for no token
-abbrev pub all_free : {K : Type 0} → Tok K → Type 0
-all_free t = Unit {0}
+abbrev pub none_free : {K W : Type 0} → Tok K → Refusal W → Type 0
+none_free t r = ⊥
 
--- limits count for the tokens that stand before the place from which on there are n bytes
-abbrev pub free_from : {K : Type 0} → ℕ → Tok K → Type 0
-free_from n t = t.left ≤ n
+abbrev pub all_free : {K W : Type 0} → Tok K → Refusal W → Type 0
+all_free t r = Unit {0}
+
+-- Free are the tokens from which on there are at most so many bytes, and all tokens are free of the one refusal.
+pub record Waiver (W : Type 0) : Type 0 where
+  pub from : ℕ
+  pub but : Option (Refusal W)
+
+abbrev pub free_by : {K W : Type 0} → Waiver W → Tok K → Refusal W → Type 0
+free_by w t r = (t.left ≤ w.from) ⊎ (w.but ≡ Some r)
+
+-- limits count for what stands before these tokens
+abbrev pub before : {K W : Type 0} → Toks K → Waiver W
+before rest = record { from = left rest; but = None }
+
+-- and for the first of these tokens, but for this refusal
+abbrev pub waived : {K W : Type 0} → Toks K → Refusal W → Waiver W
+waived rest r = record { from = left rest - 1; but = Some r }
 
 -- a phrase of the one or of the other
 abbrev pub Or : {K A : Type 0} → Lang K A → Lang K A → Lang K A
