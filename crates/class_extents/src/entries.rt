@@ -1,11 +1,10 @@
-ghost use Rattle.std.specs.Prelude.{◌≡◌, List, ◌++◌, filter_map, fold, ◌&&◌, IfOk, OnOk, length};
-ghost use Rattle.std.specs.Option.{option_copied};
+ghost use Rattle.std.specs.Prelude.{◌≡◌, List, ◌++◌, filter_map, fold, IfOk, OnOk, length};
 ghost use Rattle.std.specs.List.{list_any};
 ghost use Rattle.class_facts.specs.Trees.{spots_in};
-ghost use Rattle.class_facts.specs.Words.{same_word};
-ghost use Rattle.class_extents.specs.Extents.{is_one_side, side_entry, only_on, alone_on, index_entry, entries_with, same_spot, same_on, same_entry, add_entry, entry_name, is_on_side, is_same_index, clashes, clash_in, add_distinct, declared_indexes};
+ghost use Rattle.class_extents.specs.Extents.{is_one_side, side_entry, only_on, alone_on, index_entry, entries_with, same_spot, add_distinct, declared_indexes};
 
 use crate::entry::Entry;
+use crate::extent::is_spot;
 use class_facts::{Members, Spot, SpotTable, index_at_spot, prop_at_spot, says};
 use obj_kinds::{NoMemory, Text};
 use schema_kinds::{ClassTree, Form, Index};
@@ -130,123 +129,6 @@ pub fn find_entries(
         &mut entries,
     )?;
     Ok(entries)
-}
-
-fn is_spot(left: Spot, right: Spot) -> bool
-    ensures { result ≡ same_spot left right }
-{
-    left.class == right.class && left.place == right.place
-}
-
-fn is_same_on(left: Option<Spot>, right: Option<Spot>) -> bool
-    ensures { result ≡ same_on left right }
-{
-    match (left, right) {
-        (None, None) => true,
-        (Some(left), Some(right)) => is_spot(left, right),
-        (Some(_), None) => false,
-        (None, Some(_)) => false,
-    }
-}
-
-fn is_index(left: Entry, right: Entry) -> bool
-    ensures { result ≡ is_same_index left right }
-{
-    left.is_side == right.is_side && is_spot(left.spot, right.spot)
-}
-
-fn is_entry(left: Entry, right: Entry) -> bool
-    ensures { result ≡ same_entry left right }
-{
-    is_index(left, right) && is_same_on(left.on, right.on)
-}
-
-fn has_entry(entries: &[Entry], entry: Entry) -> bool
-    ensures { result ≡ list_any (same_entry entry) entries.now }
-{
-    entries.iter().any(|other| is_entry(entry, *other))
-}
-
-fn push_entry(entries: &mut Items<Entry>, entry: Entry) -> Result<(), NoMemory>
-    ensures { OnOk result (entries.new ≡ add_entry entries.old entry) }
-{
-    if !has_entry(entries.as_slice(), entry) {
-        entries.push(entry)?;
-    }
-    Ok(())
-}
-
-/// Adds the entries that aren't there yet.
-pub fn push_entries(entries: &mut Items<Entry>, more: &[Entry]) -> Result<(), NoMemory>
-    ensures { OnOk result (entries.new ≡ fold add_entry entries.old more.now) }
-{
-    if let Some((entry, rest)) = more.split_first() {
-        push_entry(entries, *entry)?;
-        push_entries(entries, rest)?;
-    }
-    Ok(())
-}
-
-fn name_of<'a>(trees: &'a [ClassTree], entry: Entry) -> Option<&'a Text>
-    ensures { option_copied result ≡ entry_name trees.now entry }
-{
-    if entry.is_side {
-        match prop_at_spot(trees, entry.spot) {
-            Some(prop) => Some(&prop.name),
-            None => None,
-        }
-    } else {
-        match index_at_spot(trees, entry.spot) {
-            Some(index) => Some(&index.name),
-            None => None,
-        }
-    }
-}
-
-fn has_on(side: Entry, index: Entry) -> bool
-    ensures { result ≡ is_on_side side index }
-{
-    side.is_side
-        && !index.is_side
-        && match index.on {
-            Some(spot) => is_spot(side.spot, spot),
-            None => false,
-        }
-}
-
-fn have_one_name(trees: &[ClassTree], left: Entry, right: Entry) -> bool
-    ensures { result ≡ same_word (entry_name trees.now left) (entry_name trees.now right) }
-{
-    match (name_of(trees, left), name_of(trees, right)) {
-        (None, None) => true,
-        (Some(left), Some(right)) => left.as_slice() == right.as_slice(),
-        (Some(_), None) => false,
-        (None, Some(_)) => false,
-    }
-}
-
-fn clash(trees: &[ClassTree], left: Entry, right: Entry) -> bool
-    ensures { result ≡ clashes trees.now left right }
-{
-    have_one_name(trees, left, right)
-        && !is_index(left, right)
-        && !has_on(left, right)
-        && !has_on(right, left)
-}
-
-fn any_clash_with(trees: &[ClassTree], entry: Entry, extent: &[Entry]) -> bool
-    ensures { result ≡ list_any (clashes trees.now entry) extent.now }
-{
-    extent.iter().any(|other| clash(trees, entry, *other))
-}
-
-/// Whether one of the entries has its name in common with another one of the extent.
-pub fn any_clash(trees: &[ClassTree], entries: &[Entry], extent: &[Entry]) -> bool
-    ensures { result ≡ clash_in trees.now entries.now extent.now }
-{
-    entries
-        .iter()
-        .any(|entry| any_clash_with(trees, *entry, extent))
 }
 
 fn has_spot(spots: &[Spot], spot: Spot) -> bool

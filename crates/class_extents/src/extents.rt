@@ -1,9 +1,11 @@
 ghost use Rattle.std.specs.Prelude.{◌≡◌, ◌++◌, ◌+◌, ◌<◌, ◌^◌, ◌&&◌, length, map, fold, IfOk, OnOk};
 ghost use Rattle.class_facts.specs.Facts.{seen, count_from};
+ghost use Rattle.class_extents.specs.Books.{extent_with};
 ghost use Rattle.class_extents.specs.Extents.{is_in_extent, entries_in, add_entries_if, extent_entries};
 
-use crate::entries::{find_entries, push_entries};
+use crate::entries::find_entries;
 use crate::entry::Entry;
+use crate::extent::{Extent, no_entries, push_entries};
 use class_facts::{Tables, has_ids, sort_at};
 use obj_kinds::NoMemory;
 use schema_kinds::{ClassTree, Hierarchy};
@@ -46,13 +48,14 @@ fn add_class_entries(
     tables: &Tables,
     root: usize,
     class: usize,
-    entries: &mut Items<Entry>,
+    extent: &mut Extent,
 ) -> Result<(), NoMemory>
-    ensures { OnOk result (entries.new ≡ add_entries_if (is_in_extent (seen hierarchy.now tables.now) root class) entries.old (entries_in trees.now (seen hierarchy.now tables.now) class)) }
+    requires { extent.old ≡ extent_with trees.now extent.old.entries }
+    ensures { OnOk result (extent.new ≡ extent_with trees.now (add_entries_if (is_in_extent (seen hierarchy.now tables.now) root class) extent.old.entries (entries_in trees.now (seen hierarchy.now tables.now) class))) }
 {
     if is_below_root(hierarchy, tables, root, class) {
         let more = class_entries(alloc, trees, hierarchy, tables, class)?;
-        push_entries(entries, more.as_slice())?;
+        push_entries(alloc, trees, extent, more.as_slice())?;
     }
     Ok(())
 }
@@ -65,15 +68,16 @@ fn add_extent(
     root: usize,
     from: usize,
     count: usize,
-    entries: &mut Items<Entry>,
+    extent: &mut Extent,
 ) -> Result<(), NoMemory>
-    requires { from + count < 2 ^ 63 }
-    ensures { OnOk result (entries.new ≡ fold (λ entries i. add_entries_if (is_in_extent (seen hierarchy.now tables.now) root i) entries (entries_in trees.now (seen hierarchy.now tables.now) i)) entries.old (count_from from count)) }
+    requires room { from + count < 2 ^ 63 }
+    requires booked { extent.old ≡ extent_with trees.now extent.old.entries }
+    ensures { OnOk result (extent.new ≡ extent_with trees.now (fold (λ entries i. add_entries_if (is_in_extent (seen hierarchy.now tables.now) root i) entries (entries_in trees.now (seen hierarchy.now tables.now) i)) extent.old.entries (count_from from count))) }
 {
     if count == 0 {
         return Ok(());
     }
-    add_class_entries(alloc, trees, hierarchy, tables, root, from, entries)?;
+    add_class_entries(alloc, trees, hierarchy, tables, root, from, extent)?;
     add_extent(
         alloc,
         trees,
@@ -82,7 +86,7 @@ fn add_extent(
         root,
         from + 1,
         count - 1,
-        entries,
+        extent,
     )?;
     Ok(())
 }
@@ -93,10 +97,10 @@ fn find_extent(
     hierarchy: &Hierarchy,
     tables: &Tables,
     root: usize,
-) -> Result<Items<Entry>, NoMemory>
-    ensures { IfOk result (λ entries. entries ≡ extent_entries trees.now (seen hierarchy.now tables.now) root) }
+) -> Result<Extent, NoMemory>
+    ensures { IfOk result (λ extent. extent ≡ extent_with trees.now (extent_entries trees.now (seen hierarchy.now tables.now) root)) }
 {
-    let mut entries = Items::new(alloc);
+    let mut extent = no_entries(alloc);
     add_extent(
         alloc,
         trees,
@@ -105,9 +109,9 @@ fn find_extent(
         root,
         0,
         trees.len(),
-        &mut entries,
+        &mut extent,
     )?;
-    Ok(entries)
+    Ok(extent)
 }
 
 fn push_extents(
@@ -117,10 +121,10 @@ fn push_extents(
     tables: &Tables,
     from: usize,
     count: usize,
-    extents: &mut Items<Items<Entry>>,
+    extents: &mut Items<Extent>,
 ) -> Result<(), NoMemory>
     requires { from + count < 2 ^ 63 }
-    ensures { OnOk result (extents.new ≡ extents.old ++ map (extent_entries trees.now (seen hierarchy.now tables.now)) (count_from from count)) }
+    ensures { OnOk result (extents.new ≡ extents.old ++ map (λ i. extent_with trees.now (extent_entries trees.now (seen hierarchy.now tables.now) i)) (count_from from count)) }
 {
     if count == 0 {
         return Ok(());
@@ -138,14 +142,14 @@ fn push_extents(
     Ok(())
 }
 
-/// For each class the entries of the extent of which it is the root.
+/// For each class the extent of which it is the root.
 pub fn find_extents(
     alloc: Global,
     trees: &[ClassTree],
     hierarchy: &Hierarchy,
     tables: &Tables,
-) -> Result<Items<Items<Entry>>, NoMemory>
-    ensures { IfOk result (λ extents. extents ≡ map (extent_entries trees.now (seen hierarchy.now tables.now)) (count_from 0 (length trees.now))) }
+) -> Result<Items<Extent>, NoMemory>
+    ensures { IfOk result (λ extents. extents ≡ map (λ i. extent_with trees.now (extent_entries trees.now (seen hierarchy.now tables.now) i)) (count_from 0 (length trees.now))) }
 {
     let mut extents = Items::new(alloc);
     push_extents(

@@ -191,11 +191,7 @@ fn push_ranks(
 }
 
 /// The rank of each class, counted once.
-fn find_ranks(
-    alloc: Global,
-    hierarchy: &Hierarchy,
-    count: usize,
-) -> Result<Items<usize>, NoMemory>
+fn find_ranks(alloc: Global, hierarchy: &Hierarchy, count: usize) -> Result<Items<usize>, NoMemory>
     requires { count < 2 ^ 63 }
     ensures { IfOk result (λ ranks. ranks ≡ map (λ i. rank_of hierarchy.now.above i) (count_from 0 count)) }
 {
@@ -291,14 +287,7 @@ pub fn gather_all(
     let ranks = find_ranks(alloc, hierarchy, trees.len())?;
     let mut done = no_members(alloc, trees.len())?;
     for rank in 0..trees.len() + 1 {
-        gather_rank(
-            alloc,
-            trees,
-            hierarchy,
-            &ranks,
-            rank,
-            &mut done,
-        )?;
+        gather_rank(alloc, trees, hierarchy, &ranks, rank, &mut done)?;
     }
     Ok(done)
 }

@@ -6,14 +6,15 @@ use Rattle.schema_kinds.specs.declared.hierarchy.Hierarchy.{Hierarchy}
 use Rattle.schema_kinds.specs.Links.{AreWithin, climbs, mark_at}
 use Rattle.schema_kinds.specs.Hierarchy.{IsHierarchyOf}
 use Rattle.schema_kinds.specs.Classes as classes
-use Rattle.class_extents.specs.declared.entry.Entry.{Entry}
+use Rattle.class_extents.specs.declared.extent.Extent.{Extent}
+use Rattle.class_extents.specs.Books.{extent_with}
 use Rattle.class_facts.specs.Trees.{headers_of, top_of}
 use Rattle.class_facts.specs.Facts.{Facts, facts_of, count_from}
 use Rattle.class_checks.specs.Reasons.{part_links}
 use Rattle.class_extents.specs.Extents.{extent_of, extent_entries, entries_at}
 use Rattle.class_checks.specs.Climbing.{climb_marks}
 use Rattle.class_meaning.specs.Meaning.{classes_from, classes_of}
-use Rattle.class_link.specs.Linking.{ArePrepared, extent_here, extent_by, entries_or}
+use Rattle.class_link.specs.Linking.{ArePrepared, extent_here, extent_by}
 use Rattle.class_facts.proofs.Gathering.{super-within, length-links}
 use Rattle.class_facts.proofs.FactLemmas.{get-count, length-names, top_of-small}
 use Rattle.class_checks.proofs.PartLinks.{climb_marks-climbs, parts-within, length-parts}
@@ -28,7 +29,7 @@ module _ (trees : List ClassTree) (f : Facts) (are : f ≡ facts_of trees) where
   long-names : length f.names ≡ length trees
   long-names = ap (λ (g : Facts). length g.names) are ∙ length-names trees
 
-  pub prepared : (entries : List (List Entry)) (depth parts : List Bool) → entries ≡ map (extent_entries trees f) (count_from 0 (length trees))
+  pub prepared : (entries : List Extent) (depth parts : List Bool) → entries ≡ map (λ i. extent_with trees (extent_entries trees f i)) (count_from 0 (length trees))
       → depth ≡ climb_marks 17 f.links → parts ≡ climb_marks 5 (part_links trees f) → ArePrepared trees f entries depth parts
   prepared entries depth parts e d p = record {
     extents = e;
@@ -39,13 +40,13 @@ module _ (trees : List ClassTree) (f : Facts) (are : f ≡ facts_of trees) where
   top-there : (i : ℕ) → i < length trees → slice_get f.tops i ≡ Some (top_of trees i)
   top-there i small = ap (λ (g : Facts). slice_get g.tops i) are ∙ get-count (λ j. top_of trees j) 0 (length trees) i small ∙ (let e : 0 + i ≡ i = omega arith in ap (λ j. Some (top_of trees j)) e)
 
-  pub extent-right : (entries : List (List Entry)) (i : ℕ) → entries ≡ map (extent_entries trees f) (count_from 0 (length trees)) → i < length trees
-      → extent_here f.tops entries i ≡ extent_of trees f i
-  extent-right entries i e small =
-      ap (extent_by entries) (top-there i small)
-      ∙ ap entries_or (ap (λ l. slice_get l (top_of trees i)) e ∙ get-count (extent_entries trees f) 0 (length trees) (top_of trees i) (top_of-small trees i small))
-      ∙ (let same : 0 + top_of trees i ≡ top_of trees i = omega arith in ap (extent_entries trees f) same)
-      ∙ sym (ap (entries_at trees f) (top-there i small))
+  pub extent-right : (extents : List Extent) (i : ℕ) → extents ≡ map (λ j. extent_with trees (extent_entries trees f j)) (count_from 0 (length trees)) → i < length trees
+      → extent_here f.tops extents i ≡ Some (extent_with trees (extent_of trees f i))
+  extent-right extents i e small =
+      ap (extent_by extents) (top-there i small)
+      ∙ (ap (λ l. slice_get l (top_of trees i)) e ∙ get-count (λ j. extent_with trees (extent_entries trees f j)) 0 (length trees) (top_of trees i) (top_of-small trees i small))
+      ∙ (let same : 0 + top_of trees i ≡ top_of trees i = omega arith in ap (λ j. Some (extent_with trees (extent_entries trees f j))) same)
+      ∙ sym (ap (λ o. Some (extent_with trees (entries_at trees f o))) (top-there i small))
 
 -- the classes have the headers of the trees
 headers-from : (trees : List ClassTree) (f : Facts) (i : ℕ) (rest : List ClassTree) → classes.headers_of (classes_from trees f i rest) ≡ headers_of rest

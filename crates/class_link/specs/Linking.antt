@@ -1,11 +1,12 @@
 -- What `link` answers.
-use Rattle.std.specs.Prelude.{◌≡◌, ℕ, ◌<◌, ◌≤◌, Bool, List, [], length, map, option_map, slice_get, Option, Some, None, Result, Ok, Err}
+use Rattle.std.specs.Prelude.{◌≡◌, ℕ, ◌<◌, ◌≤◌, Bool, List, length, map, option_map, slice_get, Option, Some, None, Result, Ok, Err}
 use Rattle.obj_kinds.specs.declared.memory.NoMemory.{NoMemory}
 use Rattle.obj_kinds.specs.declared.name.ClassName.{ClassName}
 use Rattle.schema_kinds.specs.declared.class.Class.{Class}
 use Rattle.schema_kinds.specs.declared.tree.ClassTree.{ClassTree}
 use Rattle.schema_kinds.specs.Links.{climbs, mark_at}
-use Rattle.class_extents.specs.declared.entry.Entry.{Entry}
+use Rattle.class_extents.specs.declared.extent.Extent.{Extent}
+use Rattle.class_extents.specs.Books.{extent_with}
 use Rattle.class_link.specs.declared.error.LinkWhy.{LinkWhy}
 use Rattle.class_link.specs.declared.error.LinkError.{LinkError}
 use Rattle.class_link.specs.declared.error.LinkError.TheVariants as error
@@ -35,8 +36,8 @@ IsOf trees i why error.NoMemory = Unit {0}
 IsOf trees i why (error.BadLink class other) = (Some class ≡ option_map (λ t. t.name) (slice_get trees i)) × (other ≡ why)
 
 -- what is found out before the last pass
-pub record ArePrepared (trees : List ClassTree) (f : Facts) (entries : List (List Entry)) (depth parts : List Bool) : Type 0 where
-  pub extents : entries ≡ map (extent_entries trees f) (count_from 0 (length trees))
+pub record ArePrepared (trees : List ClassTree) (f : Facts) (entries : List Extent) (depth parts : List Bool) : Type 0 where
+  pub extents : entries ≡ map (λ i. extent_with trees (extent_entries trees f i)) (count_from 0 (length trees))
   pub deep : (i : ℕ) → i < length trees → mark_at depth i ≡ climbs 17 f.links i
   pub nested : (i : ℕ) → i < length trees → mark_at parts i ≡ has_serial_ring trees f i
 
@@ -44,13 +45,9 @@ abbrev pub refusal_of : Result ClassName NoMemory → LinkWhy → LinkError
 refusal_of (Ok class) why = error.BadLink class why
 refusal_of (Err e) why = error.NoMemory
 
-abbrev pub entries_or : Option (List Entry) → List Entry
-entries_or None = []
-entries_or (Some entries) = entries
+abbrev pub extent_by : List Extent → Option ℕ → Option Extent
+extent_by extents None = None
+extent_by extents (Some top) = slice_get extents top
 
-abbrev pub extent_by : List (List Entry) → Option ℕ → List Entry
-extent_by extents None = []
-extent_by extents (Some top) = entries_or (slice_get extents top)
-
-abbrev pub extent_here : List ℕ → List (List Entry) → ℕ → List Entry
+abbrev pub extent_here : List ℕ → List Extent → ℕ → Option Extent
 extent_here tops extents class = extent_by extents (slice_get tops class)

@@ -5,6 +5,7 @@ ghost use Rattle.schema_kinds.specs.Classes.{is_persistent};
 ghost use Rattle.class_facts.specs.Trees.{prop_at, index_at, spots_in};
 ghost use Rattle.class_facts.specs.Facts.{seen, sort_in, option_any, any_index};
 ghost use Rattle.class_checks.specs.Reasons.{has_serial_ring, has_kind_clash, has_no_inverse, bad_parameter, has_bad_parameter};
+ghost use Rattle.class_extents.specs.Books.{extent_with};
 ghost use Rattle.class_extents.specs.Extents.{extent_of, has_name_clash, declared_indexes, long_method, long_tree, long_index, has_too_many};
 ghost use Rattle.class_link.specs.Refusal.{test_with, shape_reasons, name_reasons, late_with};
 
@@ -14,7 +15,7 @@ use class_checks::{
     any_without_inverse, has_bad_parameter,
 };
 use class_extents::{
-    Entry, any_clash, count_indexes, find_entries, find_subnodes, has_repeated_word,
+    Extent, any_clash, count_indexes, find_entries, find_subnodes, has_repeated_word,
 };
 use class_facts::{
     Members, Spot, Tables, has_ids, index_at_spot, own_props_of, prop_at_spot, sort_at, supers_at,
@@ -112,13 +113,13 @@ fn clashes_in_name(
     trees: &[ClassTree],
     hierarchy: &Hierarchy,
     tables: &Tables,
-    extent: &[Entry],
+    extent: &Extent,
     class: usize,
     members: &Members,
     spots: &[Spot],
 ) -> Result<bool, NoMemory>
     requires spots { spots.now ≡ spots_in members.now.props }
-    requires extent { extent.now ≡ extent_of trees.now (seen hierarchy.now tables.now) class }
+    requires extent { extent.now ≡ extent_with trees.now (extent_of trees.now (seen hierarchy.now tables.now) class) }
     ensures { IfOk result (λ answer. answer ≡ has_name_clash trees.now (seen hierarchy.now tables.now) class members.now.props members.now.indexes) }
 {
     if !has_ids(sort_at(hierarchy, tables, class)) {
@@ -138,16 +139,16 @@ fn has_crowded_extent(
     trees: &[ClassTree],
     hierarchy: &Hierarchy,
     tables: &Tables,
-    extent: &[Entry],
+    extent: &Extent,
     class: usize,
 ) -> Result<bool, NoMemory>
-    requires extent { extent.now ≡ extent_of trees.now (seen hierarchy.now tables.now) class }
+    requires extent { extent.now ≡ extent_with trees.now (extent_of trees.now (seen hierarchy.now tables.now) class) }
     ensures { IfOk result (λ answer. answer ≡ (is_persistent (sort_in (seen hierarchy.now tables.now) class) && nat_lt 50 (length (declared_indexes (extent_of trees.now (seen hierarchy.now tables.now) class))))) }
 {
     if !has_ids(sort_at(hierarchy, tables, class)) {
         return Ok(false);
     }
-    let count = count_indexes(alloc, extent)?;
+    let count = count_indexes(alloc, extent.entries.as_slice())?;
     Ok(count > 50)
 }
 
@@ -156,14 +157,14 @@ fn passes_limit(
     trees: &[ClassTree],
     hierarchy: &Hierarchy,
     tables: &Tables,
-    extent: &[Entry],
+    extent: &Extent,
     is_deep: bool,
     class: usize,
     members: &Members,
     spots: &[Spot],
 ) -> Result<bool, NoMemory>
     requires spots { spots.now ≡ spots_in members.now.props }
-    requires extent { extent.now ≡ extent_of trees.now (seen hierarchy.now tables.now) class }
+    requires extent { extent.now ≡ extent_with trees.now (extent_of trees.now (seen hierarchy.now tables.now) class) }
     requires deep { is_deep ≡ climbs 17 hierarchy.now.links class }
     ensures { IfOk result (λ answer. answer ≡ has_too_many trees.now (seen hierarchy.now tables.now) class members.now.props members.now.indexes) }
 {
@@ -221,14 +222,14 @@ fn name_reason(
     trees: &[ClassTree],
     hierarchy: &Hierarchy,
     tables: &Tables,
-    extent: &[Entry],
+    extent: &Extent,
     is_deep: bool,
     class: usize,
     members: &Members,
     spots: &[Spot],
 ) -> Result<Option<LinkWhy>, NoMemory>
     requires spots { spots.now ≡ spots_in members.now.props }
-    requires extent { extent.now ≡ extent_of trees.now (seen hierarchy.now tables.now) class }
+    requires extent { extent.now ≡ extent_with trees.now (extent_of trees.now (seen hierarchy.now tables.now) class) }
     requires deep { is_deep ≡ climbs 17 hierarchy.now.links class }
     ensures { IfOk result (λ why. why ≡ find (test_with trees.now (seen hierarchy.now tables.now) class members.now.props members.now.indexes) name_reasons) }
 {
@@ -266,13 +267,13 @@ pub fn late_with(
     trees: &[ClassTree],
     hierarchy: &Hierarchy,
     tables: &Tables,
-    extent: &[Entry],
+    extent: &Extent,
     is_nested: bool,
     is_deep: bool,
     class: usize,
     members: &Members,
 ) -> Result<Option<LinkWhy>, NoMemory>
-    requires extent { extent.now ≡ extent_of trees.now (seen hierarchy.now tables.now) class }
+    requires extent { extent.now ≡ extent_with trees.now (extent_of trees.now (seen hierarchy.now tables.now) class) }
     requires nested { is_nested ≡ has_serial_ring trees.now (seen hierarchy.now tables.now) class }
     requires deep { is_deep ≡ climbs 17 hierarchy.now.links class }
     ensures { IfOk result (λ why. why ≡ late_with trees.now (seen hierarchy.now tables.now) class members.now.props members.now.indexes) }

@@ -4,6 +4,8 @@ ghost use Rattle.schema_kinds.specs.Hierarchy.{IsHierarchyOf, names_of};
 ghost use Rattle.class_facts.specs.Trees.{headers_of};
 ghost use Rattle.class_facts.specs.Facts.{seen, facts_of};
 ghost use Rattle.class_checks.specs.Reasons.{has_serial_ring};
+ghost use Rattle.std.specs.Option.{option_copied};
+ghost use Rattle.class_extents.specs.Books.{extent_with};
 ghost use Rattle.class_extents.specs.Extents.{extent_of};
 ghost use Rattle.class_link.specs.Refusal.{late_reason};
 ghost use Rattle.class_link.specs.Passes.{IsFirstOf, IfNoneThen, first_repeated};
@@ -13,7 +15,7 @@ use crate::error::{LinkError, LinkWhy};
 use crate::late::late_with;
 use crate::passes::{add_names, find_headers, first_super_reason, first_type_reason};
 use class_checks::{find_part_links, mark_climbs};
-use class_extents::{Entry, find_extents};
+use class_extents::{Extent, find_extents, no_entries};
 use class_facts::{Members, SpotTable, Tables, find_sorts, find_tops, gather_all};
 use class_meaning::build_classes;
 use obj_kinds::{ClassName, NoMemory};
@@ -114,15 +116,12 @@ fn check_types(
     }
 }
 
-fn extent_at<'a>(tables: &Tables, extents: &'a [Items<Entry>], class: usize) -> &'a [Entry]
-    ensures { result.now ≡ extent_here tables.now.tops extents.now class }
+fn extent_at<'a>(tables: &Tables, extents: &'a Items<Extent>, class: usize) -> Option<&'a Extent>
+    ensures { option_copied result ≡ extent_here tables.now.tops extents.now class }
 {
     match tables.tops.get(class) {
-        Some(top) => match extents.get(*top) {
-            Some(entries) => entries.as_slice(),
-            None => &[],
-        },
-        None => &[],
+        Some(top) => extents.get(*top),
+        None => None,
     }
 }
 
@@ -131,12 +130,12 @@ fn late_reason_of(
     trees: &[ClassTree],
     hierarchy: &Hierarchy,
     tables: &Tables,
-    extent: &[Entry],
+    extent: &Extent,
     is_nested: bool,
     is_deep: bool,
     class: usize,
 ) -> Result<Option<LinkWhy>, NoMemory>
-    requires extent { extent.now ≡ extent_of trees.now (seen hierarchy.now tables.now) class }
+    requires extent { extent.now ≡ extent_with trees.now (extent_of trees.now (seen hierarchy.now tables.now) class) }
     requires nested { is_nested ≡ has_serial_ring trees.now (seen hierarchy.now tables.now) class }
     requires deep { is_deep ≡ climbs 17 hierarchy.now.links class }
     ensures { IfOk result (λ why. why ≡ late_reason trees.now (seen hierarchy.now tables.now) class) }
@@ -164,7 +163,7 @@ fn late_reason_of(
 /// What the last pass looks at.
 #[derive(Drop)]
 struct Prepared {
-    extents: Items<Items<Entry>>,
+    extents: Items<Extent>,
     deep: Marks,
     nested: Marks,
 }
@@ -202,13 +201,23 @@ fn prepared_reason(
     requires class { class < length trees.now }
     ensures { IfOk result (λ why. why ≡ late_reason trees.now (seen hierarchy.now tables.now) class) }
 {
-    let extent = extent_at(tables, prepared.extents.as_slice(), class);
     let is_nested = is_marked(prepared.nested.as_slice(), class);
     let is_deep = is_marked(prepared.deep.as_slice(), class);
-    let why = late_reason_of(
-        alloc, trees, hierarchy, tables, extent, is_nested, is_deep, class,
-    )?;
-    Ok(why)
+    match extent_at(tables, &prepared.extents, class) {
+        Some(extent) => {
+            let why = late_reason_of(
+                alloc, trees, hierarchy, tables, extent, is_nested, is_deep, class,
+            )?;
+            Ok(why)
+        }
+        None => {
+            let none = no_entries(alloc);
+            let why = late_reason_of(
+                alloc, trees, hierarchy, tables, &none, is_nested, is_deep, class,
+            )?;
+            Ok(why)
+        }
+    }
 }
 
 fn first_late_reason(

@@ -210,7 +210,7 @@ module _ (links : List (List ℕ)) (start : ℕ) (marks : List Bool) (rest : Lis
     true_marks = mark_all-only (IsAtOrBelow links start) (row links p) marks w.true_marks
         (λ k into. let at = w.true_marks p at-p in (suc at.0, IsUp-more links at.0 start p k at.1 into));
     ahead_marked = λ b into. elim (into-either b rest (news (row links p) marks) into) [
-      inl l ↦ Grows-mark marks (mark_all (row links p) marks) b grown (w.ahead_marked b (into-left b rest (p ∷ []) l))
+      | inl l ↦ Grows-mark marks (mark_all (row links p) marks) b grown (w.ahead_marked b (into-left b rest (p ∷ []) l))
       | inr n ↦ mark_all-marks (row links p) marks b row-inside (news-in (row links p) marks b n)
     ];
     closed = λ b s m into. elim (news-mark (row links p) marks b m) [ inl t ↦ old b s t into | inr n ↦ inl (into-right b rest (news (row links p) marks) n) ];
