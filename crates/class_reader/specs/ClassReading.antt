@@ -30,15 +30,20 @@ IsRead text (Err (BadClass line column why)) = (r : Refusal ClassWhy) × (readin
 
 -- ---- against the grammar
 
+-- The text is refused so: by the grammar of class files, over its tokens.
+abbrev pub IsNoClassFile : Bytes → Refusal ClassWhy → Type 0
+IsNoClassFile text r =
+    IsRefused tongue (Classes none_free text) (λ w. Classes (free_by w) text) (Classes all_free text) (file_tokens text) r
+
 -- What is answered, against the grammar of class files, over the tokens of the text.
 pub record IsClassFile (text : Bytes) (result : Result (List ClassTree) ReadError) : Type 0 where
   -- the text is a class file, and these are its classes
   pub found : (trees : List ClassTree) → result ≡ Ok trees → Classes none_free text (file_tokens text) trees
   -- a class file is read, unless memory runs out
-  pub only : (trees : List ClassTree) → Classes none_free text (file_tokens text) trees → (result ≡ Ok trees) ⊎ (result ≡ Err NoMemory)
+  pub only : (trees : List ClassTree) → Classes none_free text (file_tokens text) trees
+      → (result ≡ Ok trees) ⊎ (result ≡ Err NoMemory)
   -- What stands before the place begins a class file whose tokens so far meet no limit, and with the token at the place
   -- it begins none. The reason is a limit where with the token it begins a text that meets this one limit and, so far, no
   -- other; else it begins none even if no limit counts.
   pub refused : (line column : ℕ) (why : ClassWhy) → result ≡ Err (BadClass line column why)
-      → (r : Refusal ClassWhy) × IsPlaced text r line column why × IsRefused tongue (Classes none_free text) (λ w. Classes (free_by w) text) (Classes all_free text)
-      (file_tokens text) r
+      → (r : Refusal ClassWhy) × IsPlaced text r line column why × IsNoClassFile text r
