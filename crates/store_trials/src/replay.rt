@@ -30,6 +30,11 @@ impl Dice {
         self.roll(PLACES)
     }
 
+    /// Of the few places that are locked, so that locks meet.
+    fn locked(&mut self) -> u8 {
+        self.roll(3)
+    }
+
     fn number(&mut self) -> i64 {
         i64::from(self.roll(100)) - 50
     }
@@ -47,7 +52,7 @@ impl Dice {
     }
 
     fn owner(&mut self) -> Owner {
-        if self.roll(3) == 0 {
+        if self.roll(2) == 0 {
             Owner::Object
         } else {
             Owner::Script
@@ -76,8 +81,8 @@ impl Dice {
     fn of_locks(&mut self) -> Ask {
         match self.roll(9) {
             0 => Ask::UnlockAll(self.owner()),
-            1 | 2 | 3 => Ask::Unlock(self.place(), self.mode(), self.owner()),
-            _ => Ask::Lock(self.place(), self.mode(), self.owner(), self.keep()),
+            1 | 2 | 3 => Ask::Unlock(self.locked(), self.mode(), self.owner()),
+            _ => Ask::Lock(self.locked(), self.mode(), self.owner(), self.keep()),
         }
     }
 
@@ -112,38 +117,74 @@ fn agrees(
     Ok(is_wanted(&reply, want))
 }
 
-#[test]
-fn three_processes(rt: HostRuntime) -> Result<(), Fail> {
-    let alloc = rt.alloc();
+/// Lets the processes take these turns, the second one only before it has ended, and answers the
+/// first turn at which the store and the plain model don't agree.
+fn turns(
+    store: &mut Store,
+    plain: &mut Plain,
+    dice: &mut Dice,
+    alloc: Global,
+    from: u32,
+    to: u32,
+    has_ended: bool,
+) -> Result<Option<u32>, Fail> {
+    for turn in from..to {
+        let process = if has_ended {
+            dice.roll(2) * 2
+        } else {
+            dice.roll(3)
+        };
+        let ask = dice.ask();
+        if !agrees(store, plain, alloc, process, ask)? {
+            return Ok(Some(turn));
+        }
+    }
+    Ok(None)
+}
+
+/// Whether the end of the process agrees.
+fn end(store: &mut Store, plain: &mut Plain, process: u8) -> bool {
+    plain.end(process);
+    ended(store, u32::from(process) + 1)
+}
+
+/// The first place at which the values don't agree, as the third process gets them.
+fn values(store: &mut Store, plain: &mut Plain, alloc: Global) -> Result<Option<u32>, Fail> {
+    for place in 0..PLACES {
+        if !agrees(store, plain, alloc, 2, Ask::Get(place))? {
+            return Ok(Some(u32::from(place)));
+        }
+    }
+    Ok(None)
+}
+
+/// Runs three processes for 300 turns; the second one ends after 200, the first one at last. It
+/// answers the first turn that doesn't agree.
+fn replay(alloc: Global, seed: u64) -> Result<Option<u32>, Fail> {
     let mut store = empty_store(alloc, 3, 1_000_000)?;
     let mut plain = Plain::new(alloc)?;
-    let mut dice = Dice { state: 1 };
-    for turn in 0..250 {
-        let process = dice.roll(3);
-        let ask = dice.ask();
-        assert!(rt;
-            agrees(&mut store, &mut plain, alloc, process, ask)?,
-            "turn {turn}"
-        );
+    let mut dice = Dice { state: seed };
+    let early = turns(&mut store, &mut plain, &mut dice, alloc, 0, 200, false)?;
+    if early.is_some() {
+        return Ok(early);
     }
-    assert!(rt; ended(&mut store, 2), "the end of process 2");
-    plain.end(1);
-    for turn in 250..400 {
-        let process = dice.roll(2) * 2;
-        let ask = dice.ask();
-        assert!(rt;
-            agrees(&mut store, &mut plain, alloc, process, ask)?,
-            "turn {turn}"
-        );
+    if !end(&mut store, &mut plain, 1) {
+        return Ok(Some(200));
     }
-    assert!(rt; ended(&mut store, 1), "the end of process 1");
-    plain.end(0);
-    for place in 0..PLACES {
-        assert!(rt;
-            agrees(&mut store, &mut plain, alloc, 2, Ask::Get(place))?,
-            "at {place}"
-        );
+    let late = turns(&mut store, &mut plain, &mut dice, alloc, 200, 300, true)?;
+    if late.is_some() {
+        return Ok(late);
     }
-    assert_eq!(rt; store.history().len(), 409);
+    if !end(&mut store, &mut plain, 0) {
+        return Ok(Some(300));
+    }
+    values(&mut store, &mut plain, alloc)
+}
+
+#[test]
+fn three_processes(rt: HostRuntime) -> Result<(), Fail> {
+    for seed in 1..21 {
+        assert_eq!(rt; replay(rt.alloc(), seed)?, None, "seed {seed}");
+    }
     Ok(())
 }
