@@ -272,7 +272,7 @@ const PARAMETERS: [Case; 5] = [
     ),
 ];
 
-const LINKED: [&str; 22] = [
+const LINKED: [&str; 23] = [
     "",
     "Class A.B { }",
     "Class A.B { } Class a.B { } Class A.b { }",
@@ -295,6 +295,7 @@ const LINKED: [&str; 22] = [
     "Class A.P { Property X As %String(MAXLEN = 000000000000000000000001); }",
     "Class A.P { Property X As %Integer(MINVAL = 999999999999999999); }",
     "Class A.S Extends %SerialObject { Index I On X; Property X; }",
+    "/// A customer\nClass Bank.Customer Extends (%Persistent, %Populate) [ ClassType = persistent, ProcedureBlock ]\n{\n\n/// Full name\nProperty Name As %String(MAXLEN = 80) [ Required, SqlFieldName = FullName ];\n\nIndex NameIdx On Name;\n\nStorage Default\n{\n<Data name=\"CustomerDefaultData\">\n<Value name=\"1\">\n<Value>%%CLASSNAME</Value>\n</Value>\n</Data>\n<DataLocation>^Bank.CustomerD</DataLocation>\n}\n\n}\n",
 ];
 
 #[test]
