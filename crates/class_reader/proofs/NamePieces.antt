@@ -17,7 +17,7 @@ use Rattle.class_reader.specs.declared.keys.Rule.{Rule}
 use Rattle.class_reader.specs.declared.keys.Given.{Given}
 use Rattle.class_tokens.specs.ClassKinds.{same_kind, is, is_name, is_word, is_own_word, is_number, is_text, is_block}
 use Rattle.class_tokens.specs.ClassSteps.{Token, Tokens, Stopped, Parser, Limit, IsFault, tongue, head_kind, limit, no_limit, cut_limit, text_of, spelled}
-use Rattle.class_reader.specs.ClassNames.{name_limit, name, fresh_limit, fresh_if, fresh, class_word_limit, class_word, is_dot, dot_limit, name_dot, further_limit, further_word, dotted, name_rest, class_name, is_bare, own_limit, own_word, own_name}
+use Rattle.class_reader.specs.ClassNames.{name_limit, name, fresh_limit, fresh_if, fresh, class_word_limit, class_word, is_dot, dot_limit, name_dot, own_most, further_limit, further_word, dotted, name_rest, class_name, is_bare, own_limit, own_word, own_name}
 use Rattle.class_reader.specs.ClassValues.{content, barred_limit, or_later, number_limit, number, long_limit, string_limit, raw_string, string, is_minus, minus, negative, literal, block_limit, block, value_limit, value_word, named_value, value, is_equals, given_value, is_comma}
 use Rattle.class_reader.specs.ClassKeys.{is_only, bars_word, bars_block, is_left_out, rule_of, noted, nothing_given}
 use Rattle.class_reader.specs.ClassKeywords.{key_limit, key_word, key, is_not, not_word, negated_key, one_key, keyword, key_comma, is_closing_bracket, key_close, further_key, more_keys, bracketed_keys, is_bracket, keywords}
@@ -139,7 +139,7 @@ known_own_name =
     piece_then tongue all_kinds
     (piece_then tongue all_kinds
     (known_spelled is_own_word own_limit refl
-    (two_faulty (λ t. nat_lt 60 (length t.text))
+    (two_faulty (λ t. nat_lt (own_most (is_bare t.kind)) (length t.text))
     (λ t. is_bare t.kind) why.NameTooLong why.NoPackage) k.Name refl) (known_dotted false) refl)
     (known_rest false) refl
 

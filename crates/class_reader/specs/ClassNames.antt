@@ -68,8 +68,13 @@ class_name wide = class_word wide >>= name_rest wide false
 abbrev pub is_bare : Kind → Bool
 is_bare kind = is k.Bare kind
 
+-- how many bytes its first word may have: a dot and a byte have to fit behind it, unless the word stands alone
+abbrev pub own_most : Bool → ℕ
+own_most bare = if bare then 60 else 58
+
 abbrev pub own_limit : Limit
-own_limit t = limit (nat_lt 60 (length t.text)) why.NameTooLong t (limit (is_bare t.kind) why.NoPackage t None)
+own_limit t =
+    limit (nat_lt (own_most (is_bare t.kind)) (length t.text)) why.NameTooLong t (limit (is_bare t.kind) why.NoPackage t None)
 
 unfoldable pub own_word : Bool → Parser Bytes
 own_word wide = spelled wide is_own_word own_limit

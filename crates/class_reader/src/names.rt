@@ -141,6 +141,18 @@ pub fn class_name(alloc: Global, cursor: &mut Cursor<'_>) -> Result<Text, ClassS
     name_rest(alloc, cursor, false, first)
 }
 
+/// How many bytes the first word of a class's own name may have: a dot and a byte have to fit behind it, unless it
+/// stands alone.
+fn own_most(is_bare: bool) -> usize
+    ensures { result ≡ spec.own_most is_bare }
+{
+    if is_bare {
+        MAX_CLASS_NAME
+    } else {
+        MAX_CLASS_NAME - 2
+    }
+}
+
 #[tactic(auto, unfolding(crate::specs::ClassNames::own_word, text_reading::specs::Parsing::pick, text_reading::specs::Parsing::sees))]
 fn own_word(alloc: Global, cursor: &mut Cursor<'_>) -> Result<Text, ClassStop>
     ensures { Reads (spec.own_word false cursor.old) result cursor.new }
@@ -148,10 +160,11 @@ fn own_word(alloc: Global, cursor: &mut Cursor<'_>) -> Result<Text, ClassStop>
     if !is_own_word(cursor.peek()) {
         return Err(cursor.refuse());
     }
-    if cursor.spelling().len() > MAX_CLASS_NAME {
+    let is_bare = cursor.sees(Kind::Bare);
+    if cursor.spelling().len() > own_most(is_bare) {
         return Err(cursor.stop_at(ClassWhy::NameTooLong));
     }
-    if cursor.sees(Kind::Bare) {
+    if is_bare {
         return Err(cursor.stop_at(ClassWhy::NoPackage));
     }
     let spelling = cursor.take(alloc)?;

@@ -565,8 +565,35 @@ fn refused_long_names(rt: HostRuntime) {
             &rt,
             b"Class abcdefghijabcdefghijabcdefghijabcdefghijabcdefghijabcdefghij.A { }",
             1,
-            67,
+            7,
             NameTooLong
+        )
+    );
+    assert!(rt;
+        bad(
+            &rt,
+            b"Class abcdefghijabcdefghijabcdefghijabcdefghijabcdefghijabcdefghi.A { }",
+            1,
+            7,
+            NameTooLong
+        )
+    );
+    assert!(rt;
+        bad(
+            &rt,
+            b"Class abcdefghijabcdefghijabcdefghijabcdefghijabcdefghijabcdefgh.AB { }",
+            1,
+            66,
+            NameTooLong
+        )
+    );
+    assert!(rt;
+        bad(
+            &rt,
+            b"Class abcdefghijabcdefghijabcdefghijabcdefghijabcdefghijabcdefghij { }",
+            1,
+            7,
+            NoPackage
         )
     );
 }
