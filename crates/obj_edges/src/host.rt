@@ -1,4 +1,5 @@
-ghost use Rattle.std.specs.Prelude.{◌≡◌, ◌≤◌, ℕ, IfOk, vec_len};
+ghost use Rattle.std.specs.Prelude.{◌≡◌, ◌≤◌, ◌++◌, ℕ, IfOk, codes, string_bytes, vec_len};
+ghost use Rattle.std.specs.Fmt.{decimal};
 
 use crate::edges::{Device, FileError, Files, MAX_FILE_LEN, Put, Sink};
 use obj_kinds::NoMemory;
@@ -110,7 +111,8 @@ impl<R: rt::Files + Drop> FileDevice<R> {
     /// The device of the process with this number. The file's name is made here, so that a put takes
     /// memory at most where it opens the file, and a want of it there counts as a fault.
     pub fn new(alloc: Global, rt: R, process: usize) -> Result<FileDevice<R>, NoMemory>
-        ensures { IfOk result (λ device. device.faults ≡ 0) }
+        ensures name { IfOk result (λ device. string_bytes device.name ≡ decimal process ++ codes ".out") }
+        ensures faults { IfOk result (λ device. device.faults ≡ 0) }
     {
         let name = format!(in alloc; "{process}.out")?;
         Ok(FileDevice {
