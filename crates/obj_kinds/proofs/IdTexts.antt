@@ -1,7 +1,7 @@
 -- An id is read exactly where its text is.
-use Rattle.std.proofs.Common.{◌≡◌, ◌≢◌, ℕ, zero, suc, ℤ, pos, negsuc, ◌+◌, ◌<◌, ◌≤◌, ◌^◌, ◌==◌, Bool, true, false, ◌&&◌, cond, List, [], ◌∷◌, ◌++◌, length, take, drop, get_or, Option, Some, None, unsigned_abs, w64, FitsSigned, to_z, of_z, codes, refl, sym, ap, subst, ◌∙◌, arith, append-nil}
-use Rattle.std.specs.Option.{option_and_then, option_map}
-use Rattle.std.specs.Fmt.{decimal, signed_decimal}
+use Rattle.std.proofs.Common.{◌≡◌, ◌≢◌, ℕ, zero, suc, ℤ, pos, negsuc, ◌<◌, ◌==◌, Bool, true, false, cond, List, [], ◌∷◌, ◌++◌, length, take, drop, get_or, Option, Some, None, unsigned_abs, w64, FitsSigned, to_z, of_z, codes, refl, sym, ap, subst, ◌∙◌, arith, append-nil}
+use Rattle.std.specs.Option.{option_and_then}
+use Rattle.std.specs.Fmt.{decimal}
 use Rattle.std.proofs.lemmas.List.{take-append-drop}
 use Rattle.std.proofs.lemmas.Fmt.{decimal_is_IsNumeral}
 use Rattle.std.proofs.lemmas.Str.Parse.{numerals_by_value, tells_digits, not_in_digits}

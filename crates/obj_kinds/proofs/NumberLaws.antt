@@ -1,5 +1,5 @@
 -- More digits never make a number smaller.
-use Rattle.std.proofs.Common.{ℕ, ◌≤◌, ◌+◌, ◌-◌, ◌*◌, Bool, true, false, cond, List, [], ◌∷◌, arith}
+use Rattle.std.proofs.Common.{ℕ, ◌≤◌, ◌+◌, ◌-◌, ◌*◌, true, false, cond, List, [], ◌∷◌, arith}
 use Rattle.obj_kinds.specs.LeadingNumber.{is_digit, digits_from}
 
 pub digits_from-grows : (n : ℕ) (text : List ℕ) → n ≤ digits_from n text

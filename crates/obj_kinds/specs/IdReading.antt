@@ -1,5 +1,5 @@
 -- How an id is read from a text.
-use Rattle.std.specs.Prelude.{ℕ, suc, zero, ℤ, pos, negsuc, Bool, true, false, not, cond, ◌==◌, List, [], ◌∷◌, take, drop, codes, Option, Some, None}
+use Rattle.std.specs.Prelude.{ℕ, suc, zero, ℤ, pos, negsuc, cond, ◌==◌, List, [], ◌∷◌, take, drop, Option, Some, None}
 use Rattle.std.specs.Option.{option_and_then}
 use Rattle.obj_kinds.specs.Subscript.{whole_of}
 

@@ -1,9 +1,17 @@
 pub mod SubOrder
 pub mod Order
+pub mod Line
+pub mod OrderLaws
+pub mod Texts
+pub mod Search
 pub mod Subscript
 pub mod LeadingNumber
 pub mod Quoted
 pub mod NodeText
+pub mod Values
+pub mod Limits
+pub mod Replies
+pub mod Rising
 pub mod Ids
 pub mod IdLaws
 pub mod IdReading

@@ -11,6 +11,7 @@ mod node;
 mod node_print;
 mod number;
 mod op;
+mod pairs;
 mod quote;
 mod sub;
 mod text;
@@ -22,15 +23,16 @@ pub use error_name::ErrorName;
 pub use id::Id;
 pub use memory::{Lack, NoMemory};
 pub use name::ClassName;
-pub use node::{Node, begins_with, compare_subs, copy_subs};
+pub use node::{Node, begins_with, compare_subs, copy_subs, is_global_name};
 pub use node_print::{node_text, push_node};
 pub use number::{NumberLimit, number_of};
 pub use op::{Keep, Mode, Op, Owner, Pid, Reply};
+pub use pairs::{Pairs, are_rising, search_pairs};
 pub use quote::push_quoted;
 pub use sub::{Sub, SubError, Subs};
-pub use text::Text;
-pub use value::{Nodes, Value, Values, copy_nodes, copy_values};
-pub use whole::whole_number;
+pub use text::{Text, are_ascii};
+pub use value::{Nodes, Value, Values, copy_nodes, copy_values, number_value};
+pub use whole::{TOO_LARGE, is_whole, whole_number};
 
 #[cfg(test)]
 mod tests;

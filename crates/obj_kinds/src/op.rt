@@ -1,6 +1,14 @@
+ghost use Rattle.std.specs.Prelude.{◌≡◌, true, IfOk, OnErr};
+ghost use Rattle.std.specs.Option.{option_copied};
+ghost use Rattle.obj_kinds.specs.Limits.{is_legal_after, is_legal_op, is_legal_reply};
+ghost use Rattle.obj_kinds.specs.Replies.{has_text};
+
+use crate::memory::NoMemory;
 use crate::node::Node;
 use crate::sub::Sub;
 use crate::value::Value;
+use crate::whole::is_whole;
+use std::alloc::Global;
 
 /// The number of a process, from 1.
 #[derive(Clone, Copy, Debug, PartialEq, Eq, PartialOrd, Ord, Hash)]
@@ -82,4 +90,108 @@ pub enum Reply {
     NoTran,
     TooDeep,
     NumberLimit,
+}
+
+fn is_legal_after(after: &Option<Sub>) -> bool
+    ensures { result ≡ is_legal_after after.now }
+{
+    match after {
+        None => true,
+        Some(sub) => sub.is_legal(),
+    }
+}
+
+fn copy_after(alloc: Global, after: &Option<Sub>) -> Result<Option<Sub>, NoMemory>
+    ensures { IfOk result (λ copy. copy ≡ after.now) }
+{
+    match after {
+        None => Ok(None),
+        Some(sub) => Ok(Some(sub.copy(alloc)?)),
+    }
+}
+
+impl Op {
+    /// Whether its node, subscript and value are within their limits.
+    #[tactic(auto, unfolding(crate::specs::Limits::is_legal_op))]
+    pub fn is_legal(&self) -> bool
+        ensures { result ≡ is_legal_op self.now }
+    {
+        match self {
+            Op::Get(node) => node.is_legal(),
+            Op::Defined(node) => node.is_legal(),
+            Op::Order(node, after) => node.is_legal() && is_legal_after(after),
+            Op::Set(node, value) => node.is_legal() && value.is_legal(),
+            Op::Kill(node) => node.is_legal(),
+            Op::Incr(node, _) => node.is_legal(),
+            Op::Lock(node, _, _, _) => node.is_legal(),
+            Op::Unlock(node, _, _) => node.is_legal(),
+            _ => true,
+        }
+    }
+
+    /// The same operation again; it fails only for want of memory.
+    pub fn copy(&self, alloc: Global) -> Result<Op, NoMemory>
+        ensures { IfOk result (λ op. op ≡ self.now) }
+    {
+        match self {
+            Op::Get(node) => Ok(Op::Get(node.copy(alloc)?)),
+            Op::Defined(node) => Ok(Op::Defined(node.copy(alloc)?)),
+            Op::Order(node, after) => Ok(Op::Order(node.copy(alloc)?, copy_after(alloc, after)?)),
+            Op::Set(node, value) => Ok(Op::Set(node.copy(alloc)?, value.copy(alloc)?)),
+            Op::Kill(node) => Ok(Op::Kill(node.copy(alloc)?)),
+            Op::Incr(node, step) => Ok(Op::Incr(node.copy(alloc)?, *step)),
+            Op::Lock(node, mode, owner, keep) => {
+                Ok(Op::Lock(node.copy(alloc)?, *mode, *owner, *keep))
+            }
+            Op::Unlock(node, mode, owner) => Ok(Op::Unlock(node.copy(alloc)?, *mode, *owner)),
+            Op::UnlockAll(owner) => Ok(Op::UnlockAll(*owner)),
+            Op::Begin => Ok(Op::Begin),
+            Op::Commit => Ok(Op::Commit),
+            Op::RollbackOne => Ok(Op::RollbackOne),
+            Op::RollbackAll => Ok(Op::RollbackAll),
+            Op::End => Ok(Op::End),
+        }
+    }
+}
+
+impl Reply {
+    /// Whether its value, subscript, number and node are within their limits.
+    #[tactic(auto, unfolding(crate::specs::Limits::is_legal_reply))]
+    pub fn is_legal(&self) -> bool
+        ensures { result ≡ is_legal_reply self.now }
+    {
+        match self {
+            Reply::Found(value) => value.is_legal(),
+            Reply::Next(sub) => sub.is_legal(),
+            Reply::Number(number) => is_whole(*number),
+            Reply::Held { node, .. } => node.is_legal(),
+            _ => true,
+        }
+    }
+
+    /// The same reply again. Only one with a text takes memory, and it fails only for want of that.
+    pub fn copy(&self, alloc: Global) -> Result<Reply, NoMemory>
+        ensures ok { IfOk result (λ r. r ≡ self.now) }
+        ensures err { OnErr result (has_text self.now ≡ true) }
+    {
+        match self {
+            Reply::Done => Ok(Reply::Done),
+            Reply::Found(value) => Ok(Reply::Found(value.copy(alloc)?)),
+            Reply::Absent => Ok(Reply::Absent),
+            Reply::Next(sub) => Ok(Reply::Next(sub.copy(alloc)?)),
+            Reply::NoNext => Ok(Reply::NoNext),
+            Reply::State(state) => Ok(Reply::State(*state)),
+            Reply::Number(number) => Ok(Reply::Number(*number)),
+            Reply::Granted => Ok(Reply::Granted),
+            Reply::Held { pid, node, mode } => Ok(Reply::Held {
+                pid: *pid,
+                node: node.copy(alloc)?,
+                mode: *mode,
+            }),
+            Reply::NotHeld => Ok(Reply::NotHeld),
+            Reply::NoTran => Ok(Reply::NoTran),
+            Reply::TooDeep => Ok(Reply::TooDeep),
+            Reply::NumberLimit => Ok(Reply::NumberLimit),
+        }
+    }
 }

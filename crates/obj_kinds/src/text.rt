@@ -1,6 +1,9 @@
 ghost use Rattle.std.specs.Prelude.{◌≡◌, ℕ, List, [], ◌∷◌, ◌++◌, length, IfOk, OnOk, OnErr, IsTrue, ◌↔◌};
 ghost use Rattle.std.specs.Ordering.{nat_cmp};
 ghost use Rattle.std.specs.Cmp.Lexicographic.{slice_cmp};
+ghost use Rattle.std.specs.Char.{is_ascii};
+ghost use Rattle.std.specs.List.{list_all};
+ghost use Rattle.obj_kinds.specs.Limits.{is_legal_text};
 
 use crate::memory::NoMemory;
 use std::alloc::Global;
@@ -15,9 +18,18 @@ pub struct Text {
 }
 
 impl Model for Text {
+    ghost use Rattle.std.specs.Prelude.{List, ℕ};
+
     ghost Value = { List ℕ };
 
     ghost view = { λ t. t.bytes.items };
+}
+
+/// Whether each byte is of ASCII: 0 to 127.
+pub fn are_ascii(bytes: &[u8]) -> bool
+    ensures { result ≡ list_all is_ascii bytes.now }
+{
+    bytes.iter().all(|byte| byte.is_ascii())
 }
 
 impl Text {
@@ -43,6 +55,17 @@ impl Text {
     {
         let bytes = Vec::from_slice(alloc, bytes)?;
         Ok(Text { bytes })
+    }
+
+    /// The most bytes of a text within the limits.
+    pub const MAX_LEN: usize = 32_767;
+
+    /// Whether it is within the limits of a text: at most [`Text::MAX_LEN`] bytes, each of ASCII.
+    #[tactic(auto, unfolding(crate::specs::Limits::is_legal_text))]
+    pub fn is_legal(&self) -> bool
+        ensures { result ≡ is_legal_text self.now }
+    {
+        self.len() <= Self::MAX_LEN && are_ascii(self.as_slice())
     }
 
     /// Its bytes.
