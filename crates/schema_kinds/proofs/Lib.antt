@@ -1,3 +1,6 @@
 pub mod Closure
 pub mod Hierarchies
 pub mod Ranks
+pub mod GlobalLaws
+pub mod SameKeys
+pub mod FieldLaws

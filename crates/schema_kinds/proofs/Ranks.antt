@@ -1,7 +1,7 @@
 -- Where no class is below itself, each class has fewer classes above it than those below it have.
-use Rattle.std.proofs.Common.{◌≡◌, ℕ, zero, suc, ◌+◌, ◌<◌, ◌≤◌, ◌⊎◌, inl, inr, Bool, true, false, cond, List, [], ◌∷◌, length, get_or, IsTrue, ◌||◌, refl, sym, ap, subst, ◌∙◌, arith}
+use Rattle.std.proofs.Common.{◌≡◌, ℕ, zero, suc, ◌<◌, ◌≤◌, inl, inr, Bool, true, false, List, [], ◌∷◌, length, get_or, IsTrue, ◌||◌, refl, sym, ap, ◌∙◌, arith}
 use Rattle.std.specs.List.{list_any}
-use Rattle.schema_kinds.specs.Links.{IsIn, row, IsUp, IsAtOrBelow, IsInRing, IsWithin, AreWithin, AreAbove, AreAllAbove, mark_at, marked, rank, climbs}
+use Rattle.schema_kinds.specs.Links.{IsIn, row, IsInRing, IsWithin, AreWithin, AreAllAbove, mark_at, marked, rank, climbs}
 use Rattle.schema_kinds.proofs.Closure.{Grows}
 
 pub any-IsIn : (test : ℕ → Bool) (xs : List ℕ) → list_any test xs ≡ true → (s : ℕ) × IsIn s xs × (test s ≡ true)

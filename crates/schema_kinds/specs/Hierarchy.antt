@@ -1,14 +1,10 @@
 -- Which class extends which, and the first superclasses up to a root.
 use Rattle.std.specs.Prelude.{◌≡◌, ℕ, zero, suc, Bool, cond, List, [], ◌∷◌, ◌++◌, map, position, nat_eq, length, get_or, Option, Some, None, option_to_list}
-use Rattle.std.specs.Cmp.Lexicographic.{pointwise}
 use Rattle.obj_kinds.specs.declared.name.ClassName.{ClassName}
+pub use Rattle.obj_kinds.specs.Texts.{same_text}
 use Rattle.schema_kinds.specs.declared.hierarchy.Header.{Header}
 use Rattle.schema_kinds.specs.declared.hierarchy.Hierarchy.{Hierarchy}
 use Rattle.schema_kinds.specs.Links.{AreAllAbove}
-
--- whether two texts have the same bytes
-abbrev pub same_text : List ℕ → List ℕ → Bool
-same_text = pointwise nat_eq
 
 -- whether a name begins with `%`
 abbrev pub is_system : ClassName → Bool

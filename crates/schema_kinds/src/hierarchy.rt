@@ -58,11 +58,10 @@ fn add_later_places(
 ) -> Result<(), NoMemory>
     ensures { OnOk result (places.new ≡ places.old ++ later_places names.now supers.now) }
 {
-    if let Some((name, rest)) = supers.split_first() {
+    for name in supers {
         if !begins_with_percent(name) {
             add_place(names, name, places)?;
         }
-        add_later_places(names, rest, places)?;
     }
     Ok(())
 }
@@ -131,13 +130,18 @@ fn find_above(alloc: Global, links: &[Items<usize>]) -> Result<Items<Marks>, NoM
 fn top_of(firsts: &[Option<usize>], most: usize, start: usize) -> usize
     ensures { result ≡ top most firsts.now start }
 {
-    if most == 0 {
-        return start;
+    let mut here = start;
+    let mut left = most;
+    while left > 0 {
+        match firsts.get(here) {
+            Some(Some(first)) => {
+                here = *first;
+                left -= 1;
+            }
+            _ => return here,
+        }
     }
-    match firsts.get(start) {
-        Some(Some(first)) => top_of(firsts, most - 1, *first),
-        _ => start,
-    }
+    here
 }
 
 impl Hierarchy {

@@ -2,6 +2,7 @@
 #![tactic(auto)]
 
 mod class;
+mod globals;
 mod hierarchy;
 mod key;
 mod kind;
@@ -24,6 +25,8 @@ pub use links::{Links, Marks, is_marked, marks_above};
 pub use method::{Arg, ArgDecls, Method, Methods, copy_methods};
 pub use names::NameTable;
 pub use prop::{Prop, Props, copy_props};
-pub use record::{Field, FieldPairs, Fields, Part, Record, copy_field_pairs, copy_fields};
+pub use record::{
+    Change, Field, FieldPairs, Fields, Part, Record, copy_change, copy_field_pairs, copy_fields,
+};
 pub use schema::{Schema, short_name_of};
 pub use tree::{ClassTree, ClassTrees, Form, PropTree, PropTrees};

@@ -35,13 +35,13 @@ pub fn count_marked(marks: &[bool]) -> usize
     ensures value { result ≡ marked marks.now }
     ensures bound { result ≤ length marks.now }
 {
-    match marks.split_first() {
-        None => 0,
-        Some((mark, rest)) => {
-            let count = count_marked(rest);
-            if *mark { count + 1 } else { count }
+    let mut count = 0;
+    for mark in marks {
+        if *mark {
+            count += 1;
         }
     }
+    count
 }
 
 fn mark_link(link: usize, marks: &mut Marks, ahead: &mut Items<usize>) -> Result<(), NoMemory>
@@ -61,9 +61,8 @@ fn mark_row(row: &[usize], marks: &mut Marks, ahead: &mut Items<usize>) -> Resul
     ensures marks { OnOk result (marks.new ≡ mark_all row.now marks.old) }
     ensures ahead { OnOk result (ahead.new ≡ ahead.old ++ news row.now marks.old) }
 {
-    if let Some((link, rest)) = row.split_first() {
+    for link in row {
         mark_link(*link, marks, ahead)?;
-        mark_row(rest, marks, ahead)?;
     }
     Ok(())
 }

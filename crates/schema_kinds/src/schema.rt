@@ -1,13 +1,14 @@
-ghost use Rattle.std.specs.Prelude.{◌≡◌, ◌∷◌, [], ◌++◌, ◌<◌, IsTrue, ◌↔◌, IfSome, length};
+ghost use Rattle.std.specs.Prelude.{◌≡◌, IsTrue, ◌↔◌, IfOk};
 ghost use Rattle.std.specs.Option.{option_copied};
-ghost use Rattle.std.specs.List.{list_any};
 ghost use Rattle.schema_kinds.specs.Hierarchy.{place_of, IsHierarchyOf};
-ghost use Rattle.schema_kinds.specs.Classes.{headers_of, class_names, class_of, IsBelow, extent_of, is_with, is_root, is_persistent, is_global_of, is_own_global, short_from, short_name};
+ghost use Rattle.schema_kinds.specs.Classes.{headers_of, class_names, class_of, IsBelow, extent_of, is_root, is_persistent, is_own_global, short_from, short_name};
 
 use crate::class::{Class, Classes, Sort};
+use crate::globals::{GlobalNames, find_globals};
 use crate::hierarchy::{Hierarchy, find_first};
 use crate::names::NameTable;
-use obj_kinds::ClassName;
+use obj_kinds::{ClassName, NoMemory};
+use std::alloc::Global;
 use std::marker::Model;
 
 /// The classes that a program runs with.
@@ -15,19 +16,20 @@ use std::marker::Model;
 pub struct Schema {
     classes: Classes,
     hierarchy: Hierarchy,
+    /// The data and index globals of all extents.
+    globals: GlobalNames,
 }
 
 impl Model for Schema {
     ghost use Rattle.std.specs.Prelude.{List};
     ghost use Rattle.schema_kinds.specs.declared.class.Class.{Class};
-    ghost use Rattle.schema_kinds.specs.Hierarchy.{IsHierarchyOf};
-    ghost use Rattle.schema_kinds.specs.Classes.{headers_of};
+    ghost use Rattle.schema_kinds.specs.Schemas.{IsSchema};
 
     ghost Value = { List Class };
 
     ghost view = { λ s. s.classes };
 
-    ghost invariant = { λ s. IsHierarchyOf (headers_of s.classes) s.hierarchy };
+    ghost invariant = { λ s. IsSchema s.classes s.hierarchy s.globals };
 }
 
 fn is_stored(sort: Sort) -> bool
@@ -41,39 +43,10 @@ fn is_stored(sort: Sort) -> bool
     }
 }
 
-fn is_name_with(global: &[u8], name: &[u8], letter: u8) -> bool
-    ensures { result ≡ is_with global.now name.now letter }
-{
-    match (global.split_first(), name.split_first()) {
-        (None, _) => false,
-        (Some((byte, rest)), None) => *byte == letter && rest.is_empty(),
-        (Some((byte, rest)), Some((first, more))) => *byte == *first
-            && is_name_with(rest, more, letter),
-    }
-}
-
-fn is_extent_root(names: &NameTable, class: &Class) -> bool
+pub(crate) fn is_extent_root(names: &NameTable, class: &Class) -> bool
     ensures { result ≡ is_root names.now class.now }
 {
     is_stored(class.sort) && find_first(names, class.supers.as_slice()).is_none()
-}
-
-fn owns_global(names: &NameTable, global: &[u8], class: &Class) -> bool
-    ensures { result ≡ is_global_of names.now global.now class.now }
-{
-    let name = class.name.0.as_slice();
-    (is_name_with(global, name, b'D') || is_name_with(global, name, b'I'))
-        && is_extent_root(names, class)
-}
-
-fn one_owns_global(names: &NameTable, global: &[u8], classes: &[Class]) -> bool
-    ensures { result ≡ list_any (is_global_of names.now global.now) classes.now }
-{
-    match classes.split_first() {
-        None => false,
-        Some((class, rest)) => owns_global(names, global, class)
-            || one_owns_global(names, global, rest),
-    }
 }
 
 fn short_part<'a>(text: &'a [u8], best: &'a [u8]) -> &'a [u8]
@@ -93,12 +66,17 @@ pub fn short_name_of(name: &ClassName) -> &[u8]
 }
 
 impl Schema {
-    /// The schema of these classes.
-    pub fn new(classes: Classes, hierarchy: Hierarchy) -> Schema
+    /// The schema of these classes; it fails only for want of memory.
+    pub fn new(alloc: Global, classes: Classes, hierarchy: Hierarchy) -> Result<Schema, NoMemory>
         requires { IsHierarchyOf (headers_of classes) hierarchy }
-        ensures { result ≡ classes }
+        ensures { IfOk result (λ schema. schema ≡ classes) }
     {
-        Schema { classes, hierarchy }
+        let globals = find_globals(alloc, &hierarchy.names, classes.as_slice())?;
+        Ok(Schema {
+            classes,
+            hierarchy,
+            globals,
+        })
     }
 
     /// The classes in the order of the files.
@@ -149,10 +127,11 @@ impl Schema {
         Some(&root.name)
     }
 
-    /// Whether a global, named without `^`, is the data global or the index global of some extent.
+    /// Whether a global, named without `^`, is the data global or the index global of some extent. It
+    /// takes no memory, and no walk over the classes.
     pub fn is_own(&self, global: &[u8]) -> bool
         ensures { result ≡ is_own_global self.now global.now }
     {
-        one_owns_global(&self.hierarchy.names, global, self.classes.as_slice())
+        self.globals.contains(global)
     }
 }

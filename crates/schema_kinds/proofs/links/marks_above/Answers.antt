@@ -1,5 +1,5 @@
-use Rattle.std.proofs.Common.{◌≡◌, ◌+◌, ◌<◌, ℕ, List, [], ◌∷◌, ◌++◌, length, refl, sym, ap, subst, ◌∙◌, arith}
-use Rattle.schema_kinds.specs.Links.{row, mark_all, news, unmarked, IsWithin, AreAbove}
+use Rattle.std.proofs.Common.{◌≡◌, [], ◌++◌, length, sym, ap, subst, ◌∙◌, arith}
+use Rattle.schema_kinds.specs.Links.{row, mark_all, news, unmarked, IsWithin}
 use Rattle.schema_kinds.proofs.Closure.{Worked, Worked-next, Worked-end, row-inside, turn-smaller}
 use Rattle.schema_kinds.proofs.links.marks_above.Goals as goal
 
