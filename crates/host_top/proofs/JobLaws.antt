@@ -7,6 +7,7 @@ use Rattle.first_class.proofs.OneClass.{one_class}
 use Rattle.first_path.specs.Lines.{Line}
 use Rattle.first_path.specs.Script.{IsScript}
 use Rattle.first_path.specs.declared.act.Act.{Act}
+use Rattle.obj_edges.specs.Told.{Contents}
 use Rattle.host_top.specs.Words.{Names}
 use Rattle.host_top.specs.Texts.{Input, AreRead, Declares, CanLink, NotInForm}
 use Rattle.host_top.specs.Refusals.{IsTextRefused, IsFormRefused, AreRefused, IsScriptRefused, IsJobRefused, IsRefused}
@@ -66,7 +67,7 @@ form_refused trees BadForm links h = (links, h)
 form_refused trees Memory links h = h
 
 -- with the files that were read
-pub job_refused : (words : List (List ℕ)) (contents : List ℕ → Option (List ℕ)) (asked asked' : Option (List (List ℕ))) (faults faults' : ℕ) (input : Input) (r : Refusal) → AreRead words contents asked asked' input → IsJobRefused input.names.class input.class_text input.script_text r → IsRefused words contents asked asked' faults faults' r
+pub job_refused : (words : List (List ℕ)) (contents : List ℕ → Contents) (asked asked' : Option (List (List ℕ))) (faults faults' : ℕ) (input : Input) (r : Refusal) → AreRead words contents asked asked' input → IsJobRefused input.names.class input.class_text input.script_text r → IsRefused words contents asked asked' faults faults' r
 job_refused words contents asked asked' faults faults' input BadWords read h = absurd h
 job_refused words contents asked asked' faults faults' input (TooLong n) read h = absurd h
 job_refused words contents asked asked' faults faults' input (NotRead n) read h = absurd h

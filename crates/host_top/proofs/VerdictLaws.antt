@@ -11,6 +11,7 @@ use Rattle.text_reading.specs.declared.stop.Refusal.{Refusal}
 use Rattle.first_class.specs.declared.form.TextClass.{TextClass}
 use Rattle.first_path.specs.declared.act.Act.{Act}
 use Rattle.first_path.specs.Lines.{Line}
+use Rattle.obj_edges.specs.Told.{Contents, HasBytes, IsLonger}
 use Rattle.host_top.specs.Words.{Names, AreRunWords, AreNoRunWords}
 use Rattle.host_top.specs.Texts.{Input, Tells, TellsTooLong, AreRead, Declares, IsMisspelt, CanLink, InForm, NotInForm, IsUnderstood, max_file_len}
 use Rattle.host_top.specs.Refusals.{AskedUpTo, IsTooLong, IsUnlinked, IsBadLink, IsBadForm}
@@ -153,8 +154,8 @@ one_names words n m first second =
     let same = sym first.words_are ∙ second.words_are in
     (cc, cc)
 
-tells_same : (contents : List ℕ → Option (List ℕ)) (name told text : List ℕ) → Tells contents name text → contents name ≡ Some told → text ≡ told
-tells_same contents name told text tells is = sym (subst (λ (o : Option (List ℕ)). IfSome o (λ t. t ≡ text)) is tells)
+tells_same : (contents : List ℕ → Contents) (name told text : List ℕ) → Tells contents name text → contents name ≡ Some (Some told) → text ≡ told
+tells_same contents name told text tells is = let same : Some told ≡ Some text = subst (λ (o : Contents). HasBytes o text) is tells in cc same
 
 -- the texts that were read are those that are told
 record AreSame (input told : Input) : Type 0 where
@@ -173,8 +174,8 @@ understood_same : (input told : Input) (class : TextClass) (lines : List Line) (
 understood_same input told class lines acts same form =
     subst (λ t. IsUnderstood told.class_text t class lines acts) same.script_text (subst (λ t. IsUnderstood t input.script_text class lines acts) same.class_text form)
 
-not_short : (contents : List ℕ → Option (List ℕ)) (name text : List ℕ) → contents name ≡ Some text → length text ≤ max_file_len → TellsTooLong contents name → ⊥
-not_short contents name text is short long = let more = subst (λ (o : Option (List ℕ)). IfSome o (λ told. max_file_len < length told)) is long in omega arith
+not_short : (contents : List ℕ → Contents) (name text : List ℕ) → contents name ≡ Some (Some text) → length text ≤ max_file_len → TellsTooLong contents name → ⊥
+not_short contents name text is short long = let more = subst (λ (o : Contents). IsLonger o max_file_len) is long in omega arith
 
 -- a file that is refused for its length is too long
 too_long_is : (s : Seen) (told : Input) (name : List ℕ) → IsTold s told → AreShort told → IsTooLong s.words s.contents s.asked s.asked' name → ⊥

@@ -50,8 +50,8 @@ pub record Says (D : Type 0) (bytes : D → Option (List ℕ)) (faults : D → �
 -- the words are those of a run, and the files tell these texts
 pub record IsTold (s : Seen) (input : Input) : Type 0 where
   pub words_are : AreRunWords s.words input.names
-  pub class_told : s.contents input.names.class ≡ Some input.class_text
-  pub script_told : s.contents input.names.script ≡ Some input.script_text
+  pub class_told : s.contents input.names.class ≡ Some (Some input.class_text)
+  pub script_told : s.contents input.names.script ≡ Some (Some input.script_text)
 
 abbrev pub AreShort : Input → Type 0
 AreShort input = (length input.class_text ≤ max_file_len) × (length input.script_text ≤ max_file_len)

@@ -2,7 +2,7 @@
 use Rattle.std.specs.Prelude.{◌≡◌, ℕ, ◌≤◌, ◌⊎◌, List, [], ◌∷◌, ◌++◌, length, codes, Option}
 use Rattle.std.specs.Fmt.{decimal}
 use Rattle.obj_kinds.specs.declared.name.ClassName.{ClassName}
-use Rattle.obj_edges.specs.Told.{Rises, Asks}
+use Rattle.obj_edges.specs.Told.{Contents, Rises, Asks}
 use Rattle.schema_kinds.specs.declared.tree.ClassTree.{ClassTree}
 use Rattle.class_tokens.specs.declared.error.ClassWhy.{ClassWhy}
 use Rattle.class_reader.specs.ClassReading.{IsPlaced}
@@ -27,7 +27,7 @@ AskedUpTo names asked asked' name =
     ((name ≡ names.class) × AsksAll asked asked' (names.class ∷ [])) ⊎ ((name ≡ names.script) × AsksAll asked asked' (names.class ∷ names.script ∷ []))
 
 -- the file of this name has too many bytes, and a class file before it was read and has not
-pub record IsTooLong (words : List (List ℕ)) (contents : List ℕ → Option (List ℕ)) (asked asked' : Option (List (List ℕ))) (name : List ℕ) : Type 0 where
+pub record IsTooLong (words : List (List ℕ)) (contents : List ℕ → Contents) (asked asked' : Option (List (List ℕ))) (name : List ℕ) : Type 0 where
   pub names : Names
   pub words_are : AreRunWords words names
   pub asks : AskedUpTo names asked asked' name
@@ -49,14 +49,14 @@ abbrev pub IsUnlinked : List ClassTree → ClassName → LinkWhy → Type 0
 IsUnlinked trees class why = linking.IsRefusal trees (link.BadLink class why)
 
 -- the files were read, and the class file isn't in its grammar
-pub record IsBadClass (words : List (List ℕ)) (contents : List ℕ → Option (List ℕ)) (asked asked' : Option (List (List ℕ))) (name : List ℕ) (line column : ℕ) (why : ClassWhy) : Type 0 where
+pub record IsBadClass (words : List (List ℕ)) (contents : List ℕ → Contents) (asked asked' : Option (List (List ℕ))) (name : List ℕ) (line column : ℕ) (why : ClassWhy) : Type 0 where
   pub input : Input
   pub read : AreRead words contents asked asked' input
   pub named : name ≡ input.names.class
   pub misspelt : IsMisspeltAt input.class_text line column why
 
 -- the files were read, and the classes of the class file can't be linked
-pub record IsBadLink (words : List (List ℕ)) (contents : List ℕ → Option (List ℕ)) (asked asked' : Option (List (List ℕ))) (class : ClassName) (why : LinkWhy) : Type 0 where
+pub record IsBadLink (words : List (List ℕ)) (contents : List ℕ → Contents) (asked asked' : Option (List (List ℕ))) (class : ClassName) (why : LinkWhy) : Type 0 where
   pub input : Input
   pub read : AreRead words contents asked asked' input
   pub trees : List ClassTree
@@ -64,7 +64,7 @@ pub record IsBadLink (words : List (List ℕ)) (contents : List ℕ → Option (
   pub unlinked : IsUnlinked trees class why
 
 -- the files were read and the classes link, but they and the script aren't in the forms that are built
-pub record IsBadForm (words : List (List ℕ)) (contents : List ℕ → Option (List ℕ)) (asked asked' : Option (List (List ℕ))) : Type 0 where
+pub record IsBadForm (words : List (List ℕ)) (contents : List ℕ → Contents) (asked asked' : Option (List (List ℕ))) : Type 0 where
   pub input : Input
   pub read : AreRead words contents asked asked' input
   pub trees : List ClassTree
@@ -114,7 +114,7 @@ status_of BadForm = 8
 status_of Memory = 3
 
 -- why the file of this name isn't read
-abbrev pub IsFileRefused : (List ℕ → Option (List ℕ)) → Option (List (List ℕ)) → Option (List (List ℕ)) → ℕ → ℕ → List ℕ → Refusal → Type 0
+abbrev pub IsFileRefused : (List ℕ → Contents) → Option (List (List ℕ)) → Option (List (List ℕ)) → ℕ → ℕ → List ℕ → Refusal → Type 0
 IsFileRefused contents asked asked' faults faults' name BadWords = ⊥
 IsFileRefused contents asked asked' faults faults' name (TooLong n) = (n.now ≡ name) × Asks asked asked' name × TellsTooLong contents name
 IsFileRefused contents asked asked' faults faults' name (NotRead n) = (n.now ≡ name) × Asks asked asked' name × Rises faults faults'

@@ -1,7 +1,7 @@
 -- What a run has done.
 use Rattle.std.specs.Prelude.{◌≡◌, ℕ, ◌≤◌, ◌⊎◌, List, [], ◌∷◌, ◌++◌, length, codes, Option, Some, slice_get}
 use Rattle.std.specs.Option.{IfSome}
-use Rattle.obj_edges.specs.Told.{Rises, Adds}
+use Rattle.obj_edges.specs.Told.{Contents, Rises, Adds}
 use Rattle.first_class.specs.declared.form.TextClass.{TextClass}
 use Rattle.first_path.specs.Lines.{Line}
 use Rattle.first_path.specs.World.{world_of}
@@ -14,7 +14,7 @@ use Rattle.host_top.specs.Texts.{Input, AreRead, IsUnderstood}
 use Rattle.host_top.specs.Report.{report_of}
 
 -- the files of the words were read, and are this class and a script for it that does this
-pub record HasInput (words : List (List ℕ)) (contents : List ℕ → Option (List ℕ)) (asked asked' : Option (List (List ℕ))) (class : TextClass) (acts : List Act) : Type 0 where
+pub record HasInput (words : List (List ℕ)) (contents : List ℕ → Contents) (asked asked' : Option (List (List ℕ))) (class : TextClass) (acts : List Act) : Type 0 where
   pub input : Input
   pub read : AreRead words contents asked asked' input
   pub lines : List Line

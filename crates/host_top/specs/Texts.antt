@@ -1,6 +1,7 @@
 -- The texts of a run, as its files tell them.
 use Rattle.std.specs.Prelude.{◌≡◌, ℕ, ◌<◌, ◌≤◌, ◌⊎◌, List, [], ◌∷◌, ◌++◌, length, Option, Some, Ok, Err}
 use Rattle.std.specs.Option.{IfSome}
+use Rattle.obj_edges.specs.Told.{Contents, HasBytes, IsLonger}
 use Rattle.schema_kinds.specs.declared.tree.ClassTree.{ClassTree}
 use Rattle.class_tokens.specs.declared.error.ClassWhy.{ClassWhy}
 use Rattle.class_reader.specs.ClassReading.{reading}
@@ -28,16 +29,16 @@ pub record Input : Type 0 where
 abbrev pub AsksAll : Option (List (List ℕ)) → Option (List (List ℕ)) → List (List ℕ) → Type 0
 AsksAll old new names = IfSome old (λ before. new ≡ Some (before ++ names))
 
--- where the contents of the name are told, they are this text
-abbrev pub Tells : (List ℕ → Option (List ℕ)) → List ℕ → List ℕ → Type 0
-Tells contents name text = IfSome (contents name) (λ told. told ≡ text)
+-- where something is told of the name, it has this text
+abbrev pub Tells : (List ℕ → Contents) → List ℕ → List ℕ → Type 0
+Tells contents name text = HasBytes (contents name) text
 
--- where the contents of the name are told, they have more bytes than a file may have
-abbrev pub TellsTooLong : (List ℕ → Option (List ℕ)) → List ℕ → Type 0
-TellsTooLong contents name = IfSome (contents name) (λ told. max_file_len < length told)
+-- where something is told of the name, it has more bytes than a file may have
+abbrev pub TellsTooLong : (List ℕ → Contents) → List ℕ → Type 0
+TellsTooLong contents name = IsLonger (contents name) max_file_len
 
 -- both files were read once, in the order of the words, and no other name was asked
-pub record AreRead (words : List (List ℕ)) (contents : List ℕ → Option (List ℕ)) (asked asked' : Option (List (List ℕ))) (input : Input) : Type 0 where
+pub record AreRead (words : List (List ℕ)) (contents : List ℕ → Contents) (asked asked' : Option (List (List ℕ))) (input : Input) : Type 0 where
   pub words_are : AreRunWords words input.names
   pub class_told : Tells contents input.names.class input.class_text
   pub script_told : Tells contents input.names.script input.script_text

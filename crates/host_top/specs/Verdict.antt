@@ -1,6 +1,6 @@
 -- How a run ended, and what is known then.
 use Rattle.std.specs.Prelude.{◌≡◌, ℕ, ◌<◌, ◌≤◌, ◌⊎◌, List, [], ◌∷◌, length, Option, Some, slice_get, codes, ◌++◌}
-use Rattle.obj_edges.specs.Told.{Rises, Adds}
+use Rattle.obj_edges.specs.Told.{Contents, Rises, Adds}
 use Rattle.first_class.specs.declared.form.TextClass.{TextClass}
 use Rattle.first_path.specs.declared.act.Act.{Act}
 use Rattle.host_top.specs.Refusals.{IsRefused, message_of, status_of}
@@ -12,7 +12,7 @@ use Rattle.host_top.specs.declared.verdict.Verdict.TheVariants.{Done, Stopped, R
 -- what the outside told before a run and tells after it
 pub record Seen : Type 0 where
   pub words : List (List ℕ)
-  pub contents : List ℕ → Option (List ℕ)
+  pub contents : List ℕ → Contents
   pub asked : Option (List (List ℕ))
   pub asked' : Option (List (List ℕ))
   pub file_faults : ℕ

@@ -1,6 +1,6 @@
-ghost use Rattle.std.specs.Prelude.{◌≡◌, ◌≢◌, ℕ, ◌<◌, ◌≤◌, List, [], Option, IfOk, IfSome, length, vec_len};
+ghost use Rattle.std.specs.Prelude.{◌≡◌, ◌≢◌, ℕ, ◌≤◌, ◌⊎◌, List, [], Option, Some, None, IfOk, vec_len};
 ghost use Rattle.std.specs.Option.{option_copied};
-ghost use Rattle.obj_edges.specs.Told.{Rises, Adds, AddsFront, Asks};
+ghost use Rattle.obj_edges.specs.Told.{Contents, HasBytes, IsLonger, Rises, Adds, AddsFront, Asks};
 
 use std::alloc::Global;
 
@@ -28,8 +28,8 @@ pub enum FileError {
 
 /// Files that are read whole, by name.
 pub trait Files {
-    // The bytes of a name, where they are told.
-    ghost contents: { Self → List ℕ → Option (List ℕ) };
+    // What is told of a name: nothing, that it has no contents, or its bytes.
+    ghost contents: { Self → List ℕ → Contents };
 
     // The names asked so far, where they are told.
     ghost asked: { Self → Option (List (List ℕ)) };
@@ -37,11 +37,13 @@ pub trait Files {
     // How many reads failed.
     ghost faults: { Self → ℕ };
 
-    /// The bytes of the file; the name is noted as asked unless memory is wanting.
+    /// The bytes of the file; the name is noted as asked unless memory is wanting. A name without
+    /// contents is refused as failed.
     fn read(&mut self, alloc: Global, name: &str) -> Result<Vec<u8>, FileError>
-        ensures found { IfOk result (λ bytes. IfSome (contents self.old name.now) (λ told. told ≡ bytes.items)) }
+        ensures found { IfOk result (λ bytes. HasBytes (contents self.old name.now) bytes.items) }
         ensures short { IfOk result (λ bytes. vec_len bytes ≤ MAX_FILE_LEN) }
-        ensures too_long { result ≡ Err FileError.TooLong → IfSome (contents self.old name.now) (λ told. MAX_FILE_LEN < length told) }
+        ensures too_long { result ≡ Err FileError.TooLong → IsLonger (contents self.old name.now) MAX_FILE_LEN }
+        ensures absent { contents self.old name.now ≡ Some None → (result ≡ Err FileError.Failed) ⊎ (result ≡ Err FileError.NoMemory) }
         ensures failed { result ≡ Err FileError.Failed → Rises (faults self.old) (faults self.new) }
 
         ensures same { (other : List ℕ) → contents self.new other ≡ contents self.old other }

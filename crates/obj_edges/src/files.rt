@@ -101,7 +101,7 @@ impl Files for MemFiles {
     ghost use Rattle.std.specs.Prelude.{Some};
     ghost use Rattle.obj_edges.specs.Memory.{contents_in};
 
-    ghost contents = { λ f name. contents_in f.files name };
+    ghost contents = { λ f name. Some (contents_in f.files name) };
 
     ghost asked = { λ f. Some f.asked };
 

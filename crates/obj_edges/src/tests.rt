@@ -24,6 +24,53 @@ fn a_device_writes_its_file_at_its_first_put(rt: HostRuntime) -> Result<(), Fail
     Ok(())
 }
 
+/// The byte at a place of a long file.
+fn byte_at(place: usize) -> u8 {
+    (place % 251) as u8
+}
+
+/// Whether the bytes are so many of a long file, from its first on.
+fn is_long_file(bytes: &[u8], len: usize) -> bool {
+    for (place, byte) in bytes.iter().enumerate() {
+        if *byte != byte_at(place) {
+            return false;
+        }
+    }
+    bytes.len() == len
+}
+
+/// Puts bytes of a long file one by one, from a place on.
+fn put_each<D: Device>(device: &mut D, from: usize, to: usize) -> bool {
+    for place in from..to {
+        if device.put(&[byte_at(place)]) != Put::Done {
+            return false;
+        }
+    }
+    true
+}
+
+fn long_piece(alloc: Global, len: usize) -> Result<Vec<u8>, NoMemory> {
+    let mut piece = Vec::new(alloc);
+    for place in 0..len {
+        piece.push(byte_at(place))?;
+    }
+    Ok(piece)
+}
+
+#[test]
+fn a_long_file_is_written_in_many_pieces_and_read_whole(rt: HostRuntime) -> Result<(), Fail> {
+    let mut device = FileDevice::new(rt.alloc(), rt.clone()?, 4).expect(&rt, "memory");
+    let piece = long_piece(rt.alloc(), 10_000).expect(&rt, "memory");
+    assert_eq!(rt; device.put(piece.as_slice()), Put::Done);
+    assert!(rt; put_each(&mut device, 10_000, 13_000));
+    let mut files = HostFiles::new(rt.clone()?);
+    let Ok(bytes) = files.read(rt.alloc(), "4.out") else {
+        return Err("the file is not read".into());
+    };
+    assert!(rt; is_long_file(bytes.as_slice(), 13_000));
+    Ok(())
+}
+
 #[test]
 fn standard_output_takes_a_piece(rt: HostRuntime) -> Result<(), Fail> {
     let mut sink = StdSink::new(rt.clone()?);
