@@ -1,5 +1,5 @@
 -- Ways up are counted by marks, and the parts of a class are classes of the list.
-use Rattle.std.proofs.Common.{◌≡◌, ℕ, zero, suc, ◌<◌, Bool, true, false, cond, ◌||◌, List, [], ◌∷◌, map, filter_map, length, position, Option, Some, None, option_and_then, refl, sym, subst, ◌∙◌, arith}
+use Rattle.std.proofs.Common.{◌≡◌, ℕ, zero, suc, ◌<◌, Bool, true, false, cond, ◌||◌, List, [], ◌∷◌, map, filter_map, length, Option, Some, None, option_and_then, refl, sym, subst, ◌∙◌, arith}
 use Rattle.std.specs.List.{list_any}
 use Rattle.std.proofs.lemmas.List.Quantifiers.{position-Some}
 use Rattle.obj_kinds.specs.declared.name.ClassName.{ClassName}
@@ -16,7 +16,7 @@ use Rattle.class_facts.specs.Facts.{Facts, count_from, sort_in}
 use Rattle.class_facts.proofs.FactLemmas.{length-count}
 use Rattle.class_facts.specs.Sorts.{is_serial}
 use Rattle.class_checks.specs.Reasons.{part_place, part_by, part_of, parts_in, part_links}
-use Rattle.class_checks.specs.Climbing.{any_mark, all_true, any_marks, climb_marks}
+use Rattle.class_checks.specs.Climbing.{all_true, any_marks, climb_marks}
 
 -- marks that are counted down are on the places that have a way up
 mark-all_true : (links : List (List ℕ)) (a : ℕ) → a < length links → mark_at (all_true links) a ≡ true
@@ -24,12 +24,12 @@ mark-all_true [] a h = absurd (omega arith)
 mark-all_true (r ∷ rows) zero h = refl
 mark-all_true (r ∷ rows) (suc a) h = mark-all_true rows a (omega arith)
 
-mark-any_marks : (ms : List Bool) (links : List (List ℕ)) (a : ℕ) → a < length links → mark_at (any_marks ms links) a ≡ any_mark ms (row links a)
+mark-any_marks : (ms : List Bool) (links : List (List ℕ)) (a : ℕ) → a < length links → mark_at (any_marks ms links) a ≡ list_any (mark_at ms) (row links a)
 mark-any_marks ms [] a h = absurd (omega arith)
 mark-any_marks ms (r ∷ rows) zero h = refl
 mark-any_marks ms (r ∷ rows) (suc a) h = mark-any_marks ms rows a (omega arith)
 
-any-same : (ms : List Bool) (test : ℕ → Bool) (xs : List ℕ) (n : ℕ) → IsWithin xs n → ((s : ℕ) → s < n → mark_at ms s ≡ test s) → any_mark ms xs ≡ list_any test xs
+any-same : (ms : List Bool) (test : ℕ → Bool) (xs : List ℕ) (n : ℕ) → IsWithin xs n → ((s : ℕ) → s < n → mark_at ms s ≡ test s) → list_any (mark_at ms) xs ≡ list_any test xs
 any-same ms test [] n w h = refl
 any-same ms test (x ∷ xs) n w h = λ i. h x w.0 i || any-same ms test xs n w.1 h i
 

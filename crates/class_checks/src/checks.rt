@@ -105,13 +105,12 @@ fn find_inherited(
 ) -> Option<Spot>
     ensures { result ≡ inherited_spot (seen hierarchy.now tables.now) name.now supers.now }
 {
-    match supers.split_first() {
-        None => None,
-        Some((class, rest)) => match find_spot(hierarchy, tables, *class, name) {
-            Some(spot) => Some(spot),
-            None => find_inherited(hierarchy, tables, name, rest),
-        },
+    for class in supers {
+        if let Some(spot) = find_spot(hierarchy, tables, *class, name) {
+            return Some(spot);
+        }
     }
+    None
 }
 
 fn is_other_kind(trees: &[ClassTree], prop: &PropTree, inherited: Option<Spot>) -> bool

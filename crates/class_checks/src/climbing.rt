@@ -1,8 +1,10 @@
-ghost use Rattle.std.specs.Prelude.{◌≡◌, List, ◌++◌, filter_map, IfOk, OnOk, option_and_then};
+ghost use Rattle.std.specs.Prelude.{◌≡◌, List, ◌++◌, filter_map, option_to_list, IfOk, OnOk, option_and_then};
+ghost use Rattle.std.specs.List.{list_any};
+ghost use Rattle.schema_kinds.specs.Links.{mark_at};
 ghost use Rattle.class_facts.specs.Trees.{prop_at};
 ghost use Rattle.class_facts.specs.Facts.{seen};
 ghost use Rattle.class_checks.specs.Reasons.{part_place, part_by, part_of};
-ghost use Rattle.class_checks.specs.Climbing.{any_mark, all_true, any_marks, climb_marks};
+ghost use Rattle.class_checks.specs.Climbing.{all_true, any_marks, climb_marks};
 
 use class_facts::{Spot, Tables, makes_parts, prop_at_spot, sort_at};
 use obj_kinds::{ClassName, NoMemory};
@@ -11,43 +13,18 @@ use sqlite_items::Items;
 use std::alloc::Global;
 
 fn any_marked(marks: &[bool], places: &[usize]) -> bool
-    ensures { result ≡ any_mark marks.now places.now }
+    ensures { result ≡ list_any (mark_at marks.now) places.now }
 {
-    match places.split_first() {
-        None => false,
-        Some((place, rest)) => is_marked(marks, *place) || any_marked(marks, rest),
-    }
-}
-
-fn push_true(rows: &[Items<usize>], marks: &mut Marks) -> Result<(), NoMemory>
-    ensures { OnOk result (marks.new ≡ marks.old ++ all_true rows.now) }
-{
-    if let Some((_, rest)) = rows.split_first() {
-        marks.push(true)?;
-        push_true(rest, marks)?;
-    }
-    Ok(())
-}
-
-fn push_marks_below(
-    rows: &[Items<usize>],
-    above: &[bool],
-    marks: &mut Marks,
-) -> Result<(), NoMemory>
-    ensures { OnOk result (marks.new ≡ marks.old ++ any_marks above.now rows.now) }
-{
-    if let Some((row, rest)) = rows.split_first() {
-        marks.push(any_marked(above, row.as_slice()))?;
-        push_marks_below(rest, above, marks)?;
-    }
-    Ok(())
+    places.iter().any(|place| is_marked(marks, *place))
 }
 
 fn all_marked(alloc: Global, links: &[Items<usize>]) -> Result<Marks, NoMemory>
     ensures { IfOk result (λ marks. marks ≡ all_true links.now) }
 {
     let mut marks = Items::new(alloc);
-    push_true(links, &mut marks)?;
+    for _row in links {
+        marks.push(true)?;
+    }
     Ok(marks)
 }
 
@@ -55,7 +32,9 @@ fn marks_below(alloc: Global, links: &[Items<usize>], above: &[bool]) -> Result<
     ensures { IfOk result (λ marks. marks ≡ any_marks above.now links.now) }
 {
     let mut marks = Items::new(alloc);
-    push_marks_below(links, above, &mut marks)?;
+    for row in links {
+        marks.push(any_marked(above, row.as_slice()))?;
+    }
     Ok(marks)
 }
 
@@ -63,12 +42,10 @@ fn marks_below(alloc: Global, links: &[Items<usize>], above: &[bool]) -> Result<
 pub fn mark_climbs(alloc: Global, links: &[Items<usize>], steps: usize) -> Result<Marks, NoMemory>
     ensures { IfOk result (λ marks. marks ≡ climb_marks steps links.now) }
 {
-    if steps == 0 {
-        let marks = all_marked(alloc, links)?;
-        return Ok(marks);
+    let mut marks = all_marked(alloc, links)?;
+    for _step in 0..steps {
+        marks = marks_below(alloc, links, marks.as_slice())?;
     }
-    let above = mark_climbs(alloc, links, steps - 1)?;
-    let marks = marks_below(alloc, links, above.as_slice())?;
     Ok(marks)
 }
 
@@ -105,20 +82,17 @@ fn part_at(trees: &[ClassTree], hierarchy: &Hierarchy, tables: &Tables, spot: Sp
     }
 }
 
-fn push_parts(
+fn push_part(
     trees: &[ClassTree],
     hierarchy: &Hierarchy,
     tables: &Tables,
-    spots: &[Spot],
+    spot: Spot,
     parts: &mut Items<usize>,
 ) -> Result<(), NoMemory>
-    ensures { OnOk result (parts.new ≡ parts.old ++ filter_map (λ s. option_and_then (part_of (seen hierarchy.now tables.now)) (prop_at trees.now s)) spots.now) }
+    ensures { OnOk result (parts.new ≡ parts.old ++ option_to_list (option_and_then (part_of (seen hierarchy.now tables.now)) (prop_at trees.now spot))) }
 {
-    if let Some((spot, rest)) = spots.split_first() {
-        if let Some(part) = part_at(trees, hierarchy, tables, *spot) {
-            parts.push(part)?;
-        }
-        push_parts(trees, hierarchy, tables, rest, parts)?;
+    if let Some(part) = part_at(trees, hierarchy, tables, spot) {
+        parts.push(part)?;
     }
     Ok(())
 }
@@ -134,6 +108,8 @@ pub fn find_parts(
     ensures { IfOk result (λ parts. parts ≡ filter_map (λ s. option_and_then (part_of (seen hierarchy.now tables.now)) (prop_at trees.now s)) spots.now) }
 {
     let mut parts = Items::new(alloc);
-    push_parts(trees, hierarchy, tables, spots, &mut parts)?;
+    for spot in spots {
+        push_part(trees, hierarchy, tables, *spot, &mut parts)?;
+    }
     Ok(parts)
 }

@@ -1,5 +1,5 @@
-ghost use Rattle.std.specs.Prelude.{◌≡◌, ◌++◌, ◌+◌, ◌<◌, ◌^◌, map, IfOk, OnOk};
-ghost use Rattle.class_facts.specs.Facts.{seen, count_from};
+ghost use Rattle.std.specs.Prelude.{◌≡◌, IfOk};
+ghost use Rattle.class_facts.specs.Facts.{seen};
 ghost use Rattle.class_checks.specs.Reasons.{parts_in, part_links};
 
 use crate::climbing::find_parts;
@@ -28,26 +28,6 @@ fn class_parts(
     }
 }
 
-fn push_parts_of(
-    alloc: Global,
-    trees: &[ClassTree],
-    hierarchy: &Hierarchy,
-    tables: &Tables,
-    from: usize,
-    count: usize,
-    links: &mut Links,
-) -> Result<(), NoMemory>
-    requires { from + count < 2 ^ 63 }
-    ensures { OnOk result (links.new ≡ links.old ++ map (parts_in trees.now (seen hierarchy.now tables.now)) (count_from from count)) }
-{
-    if count == 0 {
-        return Ok(());
-    }
-    links.push(class_parts(alloc, trees, hierarchy, tables, from)?)?;
-    push_parts_of(alloc, trees, hierarchy, tables, from + 1, count - 1, links)?;
-    Ok(())
-}
-
 /// For each class the serial classes of its parts.
 pub fn find_part_links(
     alloc: Global,
@@ -58,6 +38,8 @@ pub fn find_part_links(
     ensures { IfOk result (λ links. links ≡ part_links trees.now (seen hierarchy.now tables.now)) }
 {
     let mut links = Items::new(alloc);
-    push_parts_of(alloc, trees, hierarchy, tables, 0, trees.len(), &mut links)?;
+    for class in 0..trees.len() {
+        links.push(class_parts(alloc, trees, hierarchy, tables, class)?)?;
+    }
     Ok(links)
 }

@@ -1,5 +1,5 @@
 -- A book has of each name the entries of that name.
-use Rattle.std.proofs.Common.{◌≡◌, ℕ, zero, suc, Bool, true, false, cond, not, ◌&&◌, ◌||◌, List, [], ◌∷◌, ◌++◌, filter, fold, nat_eq, Option, Some, None, option_map, refl, sym, ap, subst, ◌∙◌, append-nil}
+use Rattle.std.proofs.Common.{◌≡◌, ℕ, Bool, true, false, cond, not, ◌&&◌, ◌||◌, List, [], ◌∷◌, ◌++◌, filter, fold, nat_eq, Option, Some, None, option_map, refl, sym, ap, subst, ◌∙◌, append-nil}
 use Rattle.std.specs.List.{list_any}
 use lib.Dec.{T, eqb→eq}
 use lib.Pointwise.{bytes_decides}
@@ -143,7 +143,7 @@ same-in-group trees e n es named =
     ∙ any-filter (same_entry e) (is_named trees n) (λ f h. self-named n (entry_name trees f) (same-named trees e f h ∙ named)) es
 
 -- one more entry
-fold-last : {A B : Type 0} (f : B → A → B) (xs : List A) (b : B) (x : A) → fold f b (xs ++ x ∷ []) ≡ f (fold f b xs) x
+pub fold-last : {A B : Type 0} (f : B → A → B) (xs : List A) (b : B) (x : A) → fold f b (xs ++ x ∷ []) ≡ f (fold f b xs) x
 fold-last f [] b x = refl
 fold-last f (y ∷ xs) b x = fold-last f xs (f b y) x
 

@@ -14,7 +14,8 @@ use Rattle.class_facts.specs.declared.spots.Spot.{Spot}
 use Rattle.class_extents.specs.declared.entry.Entry.{Entry}
 use Rattle.class_facts.specs.Spots.{spot_of}
 use Rattle.class_facts.specs.Trees.{prop_at, index_at, spots_in}
-use Rattle.class_facts.specs.Facts.{Facts, count_from, sort_in, option_any, props_in, indexes_in, any_index}
+use Rattle.class_facts.specs.declared.members.Members.{Members}
+use Rattle.class_facts.specs.Facts.{Facts, count_from, sort_in, option_any, prop_pairs, props_in, indexes_in, any_index}
 use Rattle.class_facts.specs.Words.{same_word, is_word}
 
 -- a class is of the extent of this root
@@ -43,15 +44,16 @@ only_on props (n ∷ m ∷ more) = None
 abbrev pub alone_on : List (List ℕ × Spot) → Index → Option Spot
 alone_on props x = cond x.unique None (only_on props x.props)
 
-abbrev pub index_entry : List ClassTree → List (List ℕ × Spot) → Spot → Option Entry
-index_entry trees props s = option_map (λ x. record { is_side = false; spot = s; on = alone_on props x }) (index_at trees s)
+-- its property is that of the class which declares it
+abbrev pub index_entry : List ClassTree → List Members → Spot → Option Entry
+index_entry trees all s = option_map (λ x. record { is_side = false; spot = s; on = alone_on (prop_pairs (slice_get all s.class)) x }) (index_at trees s)
 
 -- what the objects of a class with these members have entries of
-abbrev pub entries_with : List ClassTree → List (List ℕ × Spot) → List (List ℕ × Spot) → List Entry
-entries_with trees props indexes = filter_map (side_entry trees) (spots_in props) ++ filter_map (index_entry trees props) (spots_in indexes)
+abbrev pub entries_with : List ClassTree → List Members → List (List ℕ × Spot) → List (List ℕ × Spot) → List Entry
+entries_with trees all props indexes = filter_map (side_entry trees) (spots_in props) ++ filter_map (index_entry trees all) (spots_in indexes)
 
 abbrev pub entries_in : List ClassTree → Facts → ℕ → List Entry
-entries_in trees f i = entries_with trees (props_in f i) (indexes_in f i)
+entries_in trees f i = entries_with trees f.members (props_in f i) (indexes_in f i)
 
 abbrev pub same_spot : Spot → Spot → Bool
 same_spot a b = nat_eq a.class b.class && nat_eq a.place b.place
@@ -131,7 +133,7 @@ extent_of trees f i = entries_at trees f (slice_get f.tops i)
 -- NameClash: two indexes of one extent have one name, or two names of subnodes are equal
 abbrev pub has_name_clash : List ClassTree → Facts → ℕ → List (List ℕ × Spot) → List (List ℕ × Spot) → Bool
 has_name_clash trees f i props indexes =
-    is_persistent (sort_in f i) && (clash_in trees (entries_with trees props indexes) (extent_of trees f i) || repeats [] (subnodes trees f i props))
+    is_persistent (sort_in f i) && (clash_in trees (entries_with trees f.members props indexes) (extent_of trees f i) || repeats [] (subnodes trees f i props))
 
 -- the declared indexes among the entries, each once
 abbrev pub add_distinct : List Spot → Entry → List Spot

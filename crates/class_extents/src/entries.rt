@@ -1,6 +1,7 @@
-ghost use Rattle.std.specs.Prelude.{◌≡◌, List, ◌++◌, filter_map, fold, IfOk, OnOk, length};
+ghost use Rattle.std.specs.Prelude.{◌≡◌, List, ◌++◌, filter_map, option_to_list, slice_get, IfOk, OnOk, length};
 ghost use Rattle.std.specs.List.{list_any};
 ghost use Rattle.class_facts.specs.Trees.{spots_in};
+ghost use Rattle.class_facts.specs.Facts.{prop_pairs};
 ghost use Rattle.class_extents.specs.Extents.{is_one_side, side_entry, only_on, alone_on, index_entry, entries_with, same_spot, add_distinct, declared_indexes};
 
 use crate::entry::Entry;
@@ -64,17 +65,50 @@ fn find_alone(props: &SpotTable, index: &Index) -> Option<Spot>
     }
 }
 
-fn index_entry_at(trees: &[ClassTree], props: &SpotTable, spot: Spot) -> Option<Entry>
-    ensures { result ≡ index_entry trees.now props.now spot }
+// The property of an index is looked for in the class that declares the index.
+fn declared_on(all: &[Members], class: usize, index: &Index) -> Option<Spot>
+    ensures { result ≡ alone_on (prop_pairs (slice_get all.now class)) index.now }
+{
+    match all.get(class) {
+        Some(members) => find_alone(&members.props, index),
+        None => None,
+    }
+}
+
+fn index_entry_at(trees: &[ClassTree], all: &[Members], spot: Spot) -> Option<Entry>
+    ensures { result ≡ index_entry trees.now all.now spot }
 {
     match index_at_spot(trees, spot) {
         Some(index) => Some(Entry {
             is_side: false,
             spot,
-            on: find_alone(props, index),
+            on: declared_on(all, spot.class, index),
         }),
         None => None,
     }
+}
+
+fn push_side(trees: &[ClassTree], spot: Spot, entries: &mut Items<Entry>) -> Result<(), NoMemory>
+    ensures { OnOk result (entries.new ≡ entries.old ++ option_to_list (side_entry trees.now spot)) }
+{
+    if let Some(entry) = side_at(trees, spot) {
+        entries.push(entry)?;
+    }
+    Ok(())
+}
+
+fn push_index_entry(
+    trees: &[ClassTree],
+    all: &[Members],
+    spot: Spot,
+    entries: &mut Items<Entry>,
+) -> Result<(), NoMemory>
+    ensures { OnOk result (entries.new ≡ entries.old ++ option_to_list (index_entry trees.now all.now spot)) }
+{
+    if let Some(entry) = index_entry_at(trees, all, spot) {
+        entries.push(entry)?;
+    }
+    Ok(())
 }
 
 fn push_sides(
@@ -84,50 +118,40 @@ fn push_sides(
 ) -> Result<(), NoMemory>
     ensures { OnOk result (entries.new ≡ entries.old ++ filter_map (side_entry trees.now) spots.now) }
 {
-    if let Some((spot, rest)) = spots.split_first() {
-        if let Some(entry) = side_at(trees, *spot) {
-            entries.push(entry)?;
-        }
-        push_sides(trees, rest, entries)?;
+    for spot in spots {
+        push_side(trees, *spot, entries)?;
     }
     Ok(())
 }
 
 fn push_index_entries(
     trees: &[ClassTree],
-    props: &SpotTable,
+    all: &[Members],
     pairs: &[(Text, Spot)],
     entries: &mut Items<Entry>,
 ) -> Result<(), NoMemory>
-    ensures { OnOk result (entries.new ≡ entries.old ++ filter_map (index_entry trees.now props.now) (spots_in pairs.now)) }
+    ensures { OnOk result (entries.new ≡ entries.old ++ filter_map (index_entry trees.now all.now) (spots_in pairs.now)) }
 {
-    if let Some((pair, rest)) = pairs.split_first() {
-        if let Some(entry) = index_entry_at(trees, props, pair.1) {
-            entries.push(entry)?;
-        }
-        push_index_entries(trees, props, rest, entries)?;
+    for pair in pairs {
+        push_index_entry(trees, all, pair.1, entries)?;
     }
     Ok(())
 }
 
-/// What the objects of a class with these members have entries of.
+/// What the objects of a class with these members have entries of; all are the members of all classes.
 pub fn find_entries(
     alloc: Global,
     trees: &[ClassTree],
+    all: &[Members],
     members: &Members,
     spots: &[Spot],
 ) -> Result<Items<Entry>, NoMemory>
     requires { spots.now ≡ spots_in members.now.props }
-    ensures { IfOk result (λ entries. entries ≡ entries_with trees.now members.now.props members.now.indexes) }
+    ensures { IfOk result (λ entries. entries ≡ entries_with trees.now all.now members.now.props members.now.indexes) }
 {
     let mut entries = Items::new(alloc);
     push_sides(trees, spots, &mut entries)?;
-    push_index_entries(
-        trees,
-        &members.props,
-        members.indexes.as_slice(),
-        &mut entries,
-    )?;
+    push_index_entries(trees, all, members.indexes.as_slice(), &mut entries)?;
     Ok(entries)
 }
 
@@ -146,21 +170,13 @@ fn push_declared(spots: &mut Items<Spot>, entry: Entry) -> Result<(), NoMemory>
     Ok(())
 }
 
-fn push_all_declared(spots: &mut Items<Spot>, entries: &[Entry]) -> Result<(), NoMemory>
-    ensures { OnOk result (spots.new ≡ fold add_distinct spots.old entries.now) }
-{
-    if let Some((entry, rest)) = entries.split_first() {
-        push_declared(spots, *entry)?;
-        push_all_declared(spots, rest)?;
-    }
-    Ok(())
-}
-
 /// How many indexes are declared among the entries of an extent.
 pub fn count_indexes(alloc: Global, entries: &[Entry]) -> Result<usize, NoMemory>
     ensures { IfOk result (λ count. count ≡ length (declared_indexes entries.now)) }
 {
     let mut spots = Items::new(alloc);
-    push_all_declared(&mut spots, entries)?;
+    for entry in entries {
+        push_declared(&mut spots, *entry)?;
+    }
     Ok(spots.len())
 }

@@ -170,14 +170,10 @@ pub fn push_entries(
     requires { extent.old ≡ extent_with trees.now extent.old.entries }
     ensures { OnOk result (extent.new ≡ extent_with trees.now (fold add_entry extent.old.entries more.now)) }
 {
-    match more.split_first() {
-        None => Ok(()),
-        Some((entry, rest)) => {
-            push_entry(alloc, trees, extent, *entry)?;
-            push_entries(alloc, trees, extent, rest)?;
-            Ok(())
-        }
+    for entry in more {
+        push_entry(alloc, trees, extent, *entry)?;
     }
+    Ok(())
 }
 
 fn any_clash_among(trees: &[ClassTree], entry: Entry, others: &[Entry]) -> bool
@@ -201,9 +197,10 @@ pub fn any_clash(trees: &[ClassTree], entries: &[Entry], extent: &Extent) -> boo
     requires { extent.now ≡ extent_with trees.now extent.now.entries }
     ensures { result ≡ clash_in trees.now entries.now extent.now.entries }
 {
-    match entries.split_first() {
-        None => false,
-        Some((entry, rest)) => any_clash_with(trees, *entry, extent)
-            || any_clash(trees, rest, extent),
+    for entry in entries {
+        if any_clash_with(trees, *entry, extent) {
+            return true;
+        }
     }
+    false
 }

@@ -1,4 +1,4 @@
-ghost use Rattle.std.specs.Prelude.{◌≡◌, ◌++◌, ◌+◌, ◌<◌, ◌^◌, ◌&&◌, length, map, fold, IfOk, OnOk};
+ghost use Rattle.std.specs.Prelude.{◌≡◌, ◌&&◌, length, map, IfOk, OnOk};
 ghost use Rattle.class_facts.specs.Facts.{seen, count_from};
 ghost use Rattle.class_extents.specs.Books.{extent_with};
 ghost use Rattle.class_extents.specs.Extents.{is_in_extent, entries_in, add_entries_if, extent_entries};
@@ -34,7 +34,13 @@ fn class_entries(
     match tables.members.get(class) {
         Some(members) => {
             let spots = members.props.spots(alloc)?;
-            let entries = find_entries(alloc, trees, members, spots.as_slice())?;
+            let entries = find_entries(
+                alloc,
+                trees,
+                tables.members.as_slice(),
+                members,
+                spots.as_slice(),
+            )?;
             Ok(entries)
         }
         None => Ok(Items::new(alloc)),
@@ -60,37 +66,6 @@ fn add_class_entries(
     Ok(())
 }
 
-fn add_extent(
-    alloc: Global,
-    trees: &[ClassTree],
-    hierarchy: &Hierarchy,
-    tables: &Tables,
-    root: usize,
-    from: usize,
-    count: usize,
-    extent: &mut Extent,
-) -> Result<(), NoMemory>
-    requires room { from + count < 2 ^ 63 }
-    requires booked { extent.old ≡ extent_with trees.now extent.old.entries }
-    ensures { OnOk result (extent.new ≡ extent_with trees.now (fold (λ entries i. add_entries_if (is_in_extent (seen hierarchy.now tables.now) root i) entries (entries_in trees.now (seen hierarchy.now tables.now) i)) extent.old.entries (count_from from count))) }
-{
-    if count == 0 {
-        return Ok(());
-    }
-    add_class_entries(alloc, trees, hierarchy, tables, root, from, extent)?;
-    add_extent(
-        alloc,
-        trees,
-        hierarchy,
-        tables,
-        root,
-        from + 1,
-        count - 1,
-        extent,
-    )?;
-    Ok(())
-}
-
 fn find_extent(
     alloc: Global,
     trees: &[ClassTree],
@@ -101,45 +76,10 @@ fn find_extent(
     ensures { IfOk result (λ extent. extent ≡ extent_with trees.now (extent_entries trees.now (seen hierarchy.now tables.now) root)) }
 {
     let mut extent = no_entries(alloc);
-    add_extent(
-        alloc,
-        trees,
-        hierarchy,
-        tables,
-        root,
-        0,
-        trees.len(),
-        &mut extent,
-    )?;
-    Ok(extent)
-}
-
-fn push_extents(
-    alloc: Global,
-    trees: &[ClassTree],
-    hierarchy: &Hierarchy,
-    tables: &Tables,
-    from: usize,
-    count: usize,
-    extents: &mut Items<Extent>,
-) -> Result<(), NoMemory>
-    requires { from + count < 2 ^ 63 }
-    ensures { OnOk result (extents.new ≡ extents.old ++ map (λ i. extent_with trees.now (extent_entries trees.now (seen hierarchy.now tables.now) i)) (count_from from count)) }
-{
-    if count == 0 {
-        return Ok(());
+    for class in 0..trees.len() {
+        add_class_entries(alloc, trees, hierarchy, tables, root, class, &mut extent)?;
     }
-    extents.push(find_extent(alloc, trees, hierarchy, tables, from)?)?;
-    push_extents(
-        alloc,
-        trees,
-        hierarchy,
-        tables,
-        from + 1,
-        count - 1,
-        extents,
-    )?;
-    Ok(())
+    Ok(extent)
 }
 
 /// For each class the extent of which it is the root.
@@ -152,14 +92,8 @@ pub fn find_extents(
     ensures { IfOk result (λ extents. extents ≡ map (λ i. extent_with trees.now (extent_entries trees.now (seen hierarchy.now tables.now) i)) (count_from 0 (length trees.now))) }
 {
     let mut extents = Items::new(alloc);
-    push_extents(
-        alloc,
-        trees,
-        hierarchy,
-        tables,
-        0,
-        trees.len(),
-        &mut extents,
-    )?;
+    for class in 0..trees.len() {
+        extents.push(find_extent(alloc, trees, hierarchy, tables, class)?)?;
+    }
     Ok(extents)
 }

@@ -54,17 +54,20 @@ fn push_shorts(
 ) -> Result<(), NoMemory>
     ensures { OnOk result (words.new ≡ words.old ++ filter_map (short_at trees.now) (chain most firsts.now class)) }
 {
-    push_short(alloc, trees, class, words)?;
-    if most == 0 {
-        return Ok(());
-    }
-    match first_of(firsts, class) {
-        Some(first) => {
-            push_shorts(alloc, trees, firsts, most - 1, first, words)?;
-            Ok(())
+    let mut here = class;
+    let mut left = most;
+    while left > 0 {
+        push_short(alloc, trees, here, words)?;
+        match first_of(firsts, here) {
+            Some(first) => {
+                here = first;
+                left -= 1;
+            }
+            None => return Ok(()),
         }
-        None => Ok(()),
     }
+    push_short(alloc, trees, here, words)?;
+    Ok(())
 }
 
 fn is_array_form(form: &Form) -> bool
@@ -102,9 +105,8 @@ fn push_arrays(
 ) -> Result<(), NoMemory>
     ensures { OnOk result (words.new ≡ words.old ++ filter_map (array_at trees.now) spots.now) }
 {
-    if let Some((spot, rest)) = spots.split_first() {
+    for spot in spots {
         push_array(alloc, trees, *spot, words)?;
-        push_arrays(alloc, trees, rest, words)?;
     }
     Ok(())
 }
@@ -125,27 +127,15 @@ pub fn find_subnodes(
     Ok(words)
 }
 
-fn any_repeated(alloc: Global, seen: &mut NameTable, words: &[Text]) -> Result<bool, NoMemory>
-    ensures { IfOk result (λ answer. answer ≡ repeats seen.old words.now) }
-{
-    match words.split_first() {
-        None => Ok(false),
-        Some((word, rest)) => {
-            let is_new = seen.insert(word.copy(alloc)?)?;
-            if !is_new {
-                return Ok(true);
-            }
-            let answer = any_repeated(alloc, seen, rest)?;
-            Ok(answer)
-        }
-    }
-}
-
 /// Whether two of the words are equal.
 pub fn has_repeated_word(alloc: Global, words: &[Text]) -> Result<bool, NoMemory>
     ensures { IfOk result (λ answer. answer ≡ repeats [] words.now) }
 {
     let mut seen = NameTable::new(alloc);
-    let answer = any_repeated(alloc, &mut seen, words)?;
-    Ok(answer)
+    for word in words {
+        if !seen.insert(word.copy(alloc)?)? {
+            return Ok(true);
+        }
+    }
+    Ok(false)
 }

@@ -1,5 +1,5 @@
 -- The tables hold what the trees say.
-use Rattle.std.proofs.Common.{◌≡◌, ℕ, zero, suc, ◌+◌, ◌<◌, List, [], ◌∷◌, map, length, slice_get, get_or, position, Option, Some, None, refl, ap, subst, ◌∙◌, arith}
+use Rattle.std.proofs.Common.{◌≡◌, ℕ, zero, suc, ◌+◌, ◌<◌, List, [], ◌∷◌, ◌++◌, map, length, slice_get, get_or, Option, Some, None, refl, ap, subst, ◌∙◌, arith}
 use Rattle.std.proofs.lemmas.List.Quantifiers.{position-Some}
 use Rattle.obj_kinds.specs.declared.name.ClassName.{ClassName}
 use Rattle.schema_kinds.specs.declared.tree.ClassTree.{ClassTree}
@@ -16,6 +16,31 @@ pub get-count : {B : Type 0} (g : ℕ → B) (s n k : ℕ) → k < n → slice_g
 get-count g s zero k h = absurd (omega arith)
 get-count g s (suc n) zero h = let e : s ≡ s + 0 = omega arith in ap (λ m. Some (g m)) e
 get-count g s (suc n) (suc k) h = let e : s + 1 + k ≡ s + suc k = omega arith in get-count g (s + 1) n k (omega arith) ∙ ap (λ m. Some (g m)) e
+
+count-more : {B : Type 0} (g : ℕ → B) (s n : ℕ) → map g (count_from s n) ++ g (s + n) ∷ [] ≡ map g (count_from s (suc n))
+count-more g s zero = let e : s + 0 ≡ s = omega arith in ap (λ m. g m ∷ []) e
+count-more g s (suc n) =
+    let e : s + suc n ≡ s + 1 + n = omega arith in
+    ap (λ m. g s ∷ map g (count_from (s + 1) n) ++ g m ∷ []) e ∙ ap (λ l. g s ∷ l) (count-more g (s + 1) n)
+
+-- one place more
+pub count-turn : {B : Type 0} (g : ℕ → B) (n : ℕ) → map g (count_from 0 n) ++ g n ∷ [] ≡ map g (count_from 0 (n + 1))
+count-turn g n =
+    let e : n ≡ 0 + n = omega arith in
+    let f : suc n ≡ n + 1 = omega arith in
+    ap (λ m. map g (count_from 0 n) ++ g m ∷ []) e ∙ count-more g 0 n ∙ ap (λ k. map g (count_from 0 k)) f
+
+count-after : (s n : ℕ) → count_from s n ++ (s + n) ∷ [] ≡ count_from s (suc n)
+count-after s zero = let e : s + 0 ≡ s = omega arith in ap (λ m. m ∷ []) e
+count-after s (suc n) =
+    let e : s + suc n ≡ s + 1 + n = omega arith in
+    ap (λ m. s ∷ count_from (s + 1) n ++ m ∷ []) e ∙ ap (λ l. s ∷ l) (count-after (s + 1) n)
+
+pub count-last : (n : ℕ) → count_from 0 n ++ n ∷ [] ≡ count_from 0 (n + 1)
+count-last n =
+    let e : n ≡ 0 + n = omega arith in
+    let f : suc n ≡ n + 1 = omega arith in
+    ap (λ m. count_from 0 n ++ m ∷ []) e ∙ count-after 0 n ∙ ap (count_from 0) f
 
 list-by-get : {B : Type 0} (xs : List B) (g : ℕ → B) (s n : ℕ) → length xs ≡ n → ((k : ℕ) → k < n → slice_get xs k ≡ Some (g (s + k))) → xs ≡ map g (count_from s n)
 list-by-get [] g s zero long h = refl

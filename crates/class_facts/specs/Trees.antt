@@ -11,7 +11,7 @@ use Rattle.schema_kinds.specs.Links.{row}
 use Rattle.schema_kinds.specs.Hierarchy.{same_text, names_of, links_of, firsts_of, chain, top}
 use Rattle.class_facts.specs.declared.spots.Spot.{Spot}
 use Rattle.class_facts.specs.declared.members.Members.{Members}
-use Rattle.class_facts.specs.Spots.{add_spots, put_spots}
+use Rattle.class_facts.specs.Spots.{add_spots, put_spots, gather_spots}
 
 abbrev pub header_of : ClassTree → Header
 header_of tree = record { name = tree.name; supers = tree.supers }
@@ -73,12 +73,12 @@ abbrev pub index_spots : ℕ → ℕ → List Index → List (List ℕ × Spot)
 index_spots class from [] = []
 index_spots class from (x ∷ xs) = (x.name, record { class = class; place = from }) ∷ index_spots class (from + 1) xs
 
--- those of the superclasses in order, each name once
+-- those of the superclasses in order; a name that an earlier superclass gives is left to it
 abbrev pub inherited_props : List Members → List (List ℕ × Spot)
 inherited_props supers = fold (λ spots m. add_spots spots m.props) [] supers
 
 abbrev pub inherited_indexes : List Members → List (List ℕ × Spot)
-inherited_indexes supers = fold (λ spots m. add_spots spots m.indexes) [] supers
+inherited_indexes supers = fold (λ spots m. gather_spots spots m.indexes) [] supers
 
 -- the inherited members and then the class's own; a property that is declared again takes the place of the inherited one
 abbrev pub members_with : List ClassTree → ℕ → List Members → Members

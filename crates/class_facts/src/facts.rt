@@ -22,23 +22,6 @@ fn sort_from(supers: &[ClassName]) -> Sort
     }
 }
 
-fn push_tops(
-    hierarchy: &Hierarchy,
-    from: usize,
-    count: usize,
-    tops: &mut Items<usize>,
-) -> Result<(), NoMemory>
-    requires { from + count < 2 ^ 63 }
-    ensures { OnOk result (tops.new ≡ tops.old ++ map (λ i. top (length hierarchy.now.firsts) hierarchy.now.firsts i) (count_from from count)) }
-{
-    if count == 0 {
-        return Ok(());
-    }
-    tops.push(hierarchy.top(from))?;
-    push_tops(hierarchy, from + 1, count - 1, tops)?;
-    Ok(())
-}
-
 /// The root above each class.
 pub fn find_tops(
     alloc: Global,
@@ -49,18 +32,10 @@ pub fn find_tops(
     ensures { IfOk result (λ tops. tops ≡ map (λ i. top (length hierarchy.now.firsts) hierarchy.now.firsts i) (count_from 0 count)) }
 {
     let mut tops = Items::new(alloc);
-    push_tops(hierarchy, 0, count, &mut tops)?;
-    Ok(tops)
-}
-
-fn push_sorts(trees: &[ClassTree], tops: &[usize], sorts: &mut Items<Sort>) -> Result<(), NoMemory>
-    ensures { OnOk result (sorts.new ≡ sorts.old ++ map (λ t. sort_above (supers_of (slice_get trees.now t))) tops.now) }
-{
-    if let Some((top, rest)) = tops.split_first() {
-        sorts.push(sort_from(supers_named(trees, *top)))?;
-        push_sorts(trees, rest, sorts)?;
+    for class in 0..count {
+        tops.push(hierarchy.top(class))?;
     }
-    Ok(())
+    Ok(tops)
 }
 
 /// The sort of each class: that which the first superclass of its root gives.
@@ -72,6 +47,8 @@ pub fn find_sorts(
     ensures { IfOk result (λ sorts. sorts ≡ map (λ t. sort_above (supers_of (slice_get trees.now t))) tops.now) }
 {
     let mut sorts = Items::new(alloc);
-    push_sorts(trees, tops, &mut sorts)?;
+    for top in tops {
+        sorts.push(sort_from(supers_named(trees, *top)))?;
+    }
     Ok(sorts)
 }

@@ -1,7 +1,7 @@
-ghost use Rattle.std.specs.Prelude.{◌≡◌, ℕ, [], ◌++◌, ◌+◌, ◌<◌, ◌^◌, length, map, IfOk, OnOk, fold, filter_map, slice_get, Some};
+ghost use Rattle.std.specs.Prelude.{◌≡◌, ℕ, ◌++◌, ◌+◌, ◌<◌, ◌^◌, length, map, IfOk, OnOk, fold, filter_map, option_to_list, slice_get};
 ghost use Rattle.schema_kinds.specs.Links.{row, IsInRing, rank as rank_of};
 ghost use Rattle.schema_kinds.specs.Hierarchy.{IsHierarchyOf};
-ghost use Rattle.class_facts.specs.Spots.{add_spots, put_spots};
+ghost use Rattle.class_facts.specs.Spots.{add_spots, put_spots, fresh_spots, gather_spots, HaveSameNames};
 ghost use Rattle.class_facts.specs.Trees.{own_props, own_indexes, prop_spots, index_spots, supers_of, members_with, headers_of, super_links};
 ghost use Rattle.class_facts.specs.Facts.{count_from};
 ghost use Rattle.class_facts.specs.Gathered.{AreGathered, AreGatheredTo};
@@ -52,16 +52,13 @@ pub fn own_indexes_of(trees: &[ClassTree], class: usize) -> &[Index]
 fn put_props(
     alloc: Global,
     class: usize,
-    from: usize,
     props: &[PropTree],
     table: &mut SpotTable,
 ) -> Result<(), NoMemory>
-    requires { from + length props.now < 2 ^ 63 }
-    ensures { OnOk result (table.new ≡ put_spots table.old (prop_spots class from props.now)) }
+    ensures { OnOk result (table.new ≡ put_spots table.old (prop_spots class 0 props.now)) }
 {
-    if let Some((prop, rest)) = props.split_first() {
-        table.put(prop.name.copy(alloc)?, Spot { class, place: from })?;
-        put_props(alloc, class, from + 1, rest, table)?;
+    for (place, prop) in props.iter().enumerate() {
+        table.put(prop.name.copy(alloc)?, Spot { class, place })?;
     }
     Ok(())
 }
@@ -69,16 +66,27 @@ fn put_props(
 fn push_indexes(
     alloc: Global,
     class: usize,
-    from: usize,
     indexes: &[Index],
     pairs: &mut Items<(Text, Spot)>,
 ) -> Result<(), NoMemory>
-    requires { from + length indexes.now < 2 ^ 63 }
-    ensures { OnOk result (pairs.new ≡ pairs.old ++ index_spots class from indexes.now) }
+    ensures { OnOk result (pairs.new ≡ pairs.old ++ index_spots class 0 indexes.now) }
 {
-    if let Some((index, rest)) = indexes.split_first() {
-        pairs.push((index.name.copy(alloc)?, Spot { class, place: from }))?;
-        push_indexes(alloc, class, from + 1, rest, pairs)?;
+    for (place, index) in indexes.iter().enumerate() {
+        pairs.push((index.name.copy(alloc)?, Spot { class, place }))?;
+    }
+    Ok(())
+}
+
+fn inherit_props_of(
+    alloc: Global,
+    class: usize,
+    done: &[Members],
+    table: &mut SpotTable,
+) -> Result<(), NoMemory>
+    ensures { OnOk result (table.new ≡ fold (λ spots m. add_spots spots m.props) table.old (option_to_list (slice_get done.now class))) }
+{
+    if let Some(members) = done.get(class) {
+        table.add_all(alloc, &members.props)?;
     }
     Ok(())
 }
@@ -91,11 +99,57 @@ fn inherit_props(
 ) -> Result<(), NoMemory>
     ensures { OnOk result (table.new ≡ fold (λ spots m. add_spots spots m.props) table.old (filter_map (slice_get done.now) supers.now)) }
 {
-    if let Some((class, rest)) = supers.split_first() {
-        if let Some(members) = done.get(*class) {
-            table.add_all(alloc, &members.props)?;
+    for class in supers {
+        inherit_props_of(alloc, *class, done, table)?;
+    }
+    Ok(())
+}
+
+fn push_fresh(
+    alloc: Global,
+    names: &SpotTable,
+    more: &[(Text, Spot)],
+    pairs: &mut Items<(Text, Spot)>,
+) -> Result<(), NoMemory>
+    ensures { OnOk result (pairs.new ≡ pairs.old ++ fresh_spots names.now more.now) }
+{
+    for pair in more {
+        if names.find(&pair.0).is_none() {
+            pairs.push((pair.0.copy(alloc)?, pair.1))?;
         }
-        inherit_props(alloc, rest, done, table)?;
+    }
+    Ok(())
+}
+
+// The names of the pairs stand in a table beside them.
+fn inherit_from(
+    alloc: Global,
+    more: &[(Text, Spot)],
+    names: &mut SpotTable,
+    pairs: &mut Items<(Text, Spot)>,
+) -> Result<(), NoMemory>
+    requires { HaveSameNames names.old pairs.old }
+    ensures gathered { OnOk result (pairs.new ≡ gather_spots pairs.old more.now) }
+    ensures named { OnOk result (HaveSameNames names.new pairs.new) }
+{
+    push_fresh(alloc, names, more, pairs)?;
+    names.add_pairs(alloc, more)?;
+    Ok(())
+}
+
+fn inherit_indexes_of(
+    alloc: Global,
+    class: usize,
+    done: &[Members],
+    names: &mut SpotTable,
+    pairs: &mut Items<(Text, Spot)>,
+) -> Result<(), NoMemory>
+    requires { HaveSameNames names.old pairs.old }
+    ensures gathered { OnOk result (pairs.new ≡ fold (λ spots m. gather_spots spots m.indexes) pairs.old (option_to_list (slice_get done.now class))) }
+    ensures named { OnOk result (HaveSameNames names.new pairs.new) }
+{
+    if let Some(members) = done.get(class) {
+        inherit_from(alloc, members.indexes.as_slice(), names, pairs)?;
     }
     Ok(())
 }
@@ -104,15 +158,14 @@ fn inherit_indexes(
     alloc: Global,
     supers: &[usize],
     done: &[Members],
-    table: &mut SpotTable,
+    names: &mut SpotTable,
+    pairs: &mut Items<(Text, Spot)>,
 ) -> Result<(), NoMemory>
-    ensures { OnOk result (table.new ≡ fold (λ spots m. add_spots spots m.indexes) table.old (filter_map (slice_get done.now) supers.now)) }
+    requires { HaveSameNames names.old pairs.old }
+    ensures { OnOk result (pairs.new ≡ fold (λ spots m. gather_spots spots m.indexes) pairs.old (filter_map (slice_get done.now) supers.now)) }
 {
-    if let Some((class, rest)) = supers.split_first() {
-        if let Some(members) = done.get(*class) {
-            table.add_pairs(alloc, members.indexes.as_slice())?;
-        }
-        inherit_indexes(alloc, rest, done, table)?;
+    for class in supers {
+        inherit_indexes_of(alloc, *class, done, names, pairs)?;
     }
     Ok(())
 }
@@ -128,7 +181,7 @@ fn all_props(
 {
     let mut table = SpotTable::new(alloc);
     inherit_props(alloc, supers, done, &mut table)?;
-    put_props(alloc, class, 0, own_props_of(trees, class), &mut table)?;
+    put_props(alloc, class, own_props_of(trees, class), &mut table)?;
     Ok(table)
 }
 
@@ -141,10 +194,10 @@ fn all_indexes(
 ) -> Result<Items<(Text, Spot)>, NoMemory>
     ensures { IfOk result (λ pairs. pairs ≡ (members_with trees.now class (filter_map (slice_get done.now) supers.now)).indexes) }
 {
-    let mut table = SpotTable::new(alloc);
-    inherit_indexes(alloc, supers, done, &mut table)?;
-    let mut pairs = table.pairs(alloc)?;
-    push_indexes(alloc, class, 0, own_indexes_of(trees, class), &mut pairs)?;
+    let mut names = SpotTable::new(alloc);
+    let mut pairs = Items::new(alloc);
+    inherit_indexes(alloc, supers, done, &mut names, &mut pairs)?;
+    push_indexes(alloc, class, own_indexes_of(trees, class), &mut pairs)?;
     Ok(pairs)
 }
 
@@ -173,30 +226,15 @@ pub fn supers_at(hierarchy: &Hierarchy, class: usize) -> &[usize]
     }
 }
 
-fn push_ranks(
-    hierarchy: &Hierarchy,
-    from: usize,
-    count: usize,
-    ranks: &mut Items<usize>,
-) -> Result<(), NoMemory>
-    requires { from + count < 2 ^ 63 }
-    ensures { OnOk result (ranks.new ≡ ranks.old ++ map (λ i. rank_of hierarchy.now.above i) (count_from from count)) }
-{
-    if count == 0 {
-        return Ok(());
-    }
-    ranks.push(hierarchy.rank(from))?;
-    push_ranks(hierarchy, from + 1, count - 1, ranks)?;
-    Ok(())
-}
-
 /// The rank of each class, counted once.
 fn find_ranks(alloc: Global, hierarchy: &Hierarchy, count: usize) -> Result<Items<usize>, NoMemory>
     requires { count < 2 ^ 63 }
     ensures { IfOk result (λ ranks. ranks ≡ map (λ i. rank_of hierarchy.now.above i) (count_from 0 count)) }
 {
     let mut ranks = Items::new(alloc);
-    push_ranks(hierarchy, 0, count, &mut ranks)?;
+    for class in 0..count {
+        ranks.push(hierarchy.rank(class))?;
+    }
     Ok(ranks)
 }
 

@@ -7,14 +7,14 @@ use obj_kinds::whole_number;
 fn without_zeros(digits: &[u8]) -> &[u8]
     ensures { result.now ≡ skip_zeros digits.now }
 {
-    match digits.split_first() {
-        None => digits,
-        Some((digit, rest)) => if *digit == b'0' && !rest.is_empty() {
-            without_zeros(rest)
-        } else {
-            digits
-        },
+    let mut left = digits;
+    while let Some((digit, rest)) = left.split_first() {
+        if *digit != b'0' || rest.is_empty() {
+            return left;
+        }
+        left = rest;
     }
+    left
 }
 
 fn unsigned_number(digits: &[u8]) -> Option<i64>

@@ -92,36 +92,10 @@ impl SpotTable {
     pub fn add_pairs(&mut self, alloc: Global, pairs: &[(Text, Spot)]) -> Result<(), NoMemory>
         ensures { OnOk result (self.new ≡ add_spots self.old pairs.now) }
     {
-        if let Some((pair, rest)) = pairs.split_first() {
+        for pair in pairs {
             self.add(alloc, &pair.0, pair.1)?;
-            self.add_pairs(alloc, rest)?;
         }
         Ok(())
-    }
-
-    fn copy_pair(
-        &self,
-        alloc: Global,
-        place: usize,
-        pairs: &mut Items<(Text, Spot)>,
-    ) -> Result<(), NoMemory>
-        ensures { OnOk result (pairs.new ≡ pairs.old ++ option_to_list (slice_get self.now place)) }
-    {
-        if let Some((name, spot)) = self.spots.get_index(place) {
-            pairs.push((name.copy(alloc)?, *spot))?;
-        }
-        Ok(())
-    }
-
-    /// All its pairs, in order.
-    pub fn pairs(&self, alloc: Global) -> Result<Items<(Text, Spot)>, NoMemory>
-        ensures { IfOk result (λ pairs. pairs ≡ self.now) }
-    {
-        let mut pairs = Items::new(alloc);
-        for place in 0..self.spots.len() {
-            self.copy_pair(alloc, place, &mut pairs)?;
-        }
-        Ok(pairs)
     }
 
     fn push_spot(&self, place: usize, spots: &mut Items<Spot>) -> Result<(), NoMemory>

@@ -3,7 +3,7 @@ use Rattle.std.proofs.Common.{◌≡◌, ℕ, ◌+◌, ◌<◌, Bool, List, [], 
 use Rattle.schema_kinds.specs.declared.tree.ClassTree.{ClassTree}
 use Rattle.schema_kinds.specs.declared.class.Class.{Class}
 use Rattle.schema_kinds.specs.declared.hierarchy.Hierarchy.{Hierarchy}
-use Rattle.schema_kinds.specs.Links.{AreWithin, climbs, mark_at}
+use Rattle.schema_kinds.specs.Links.{AreWithin, mark_at}
 use Rattle.schema_kinds.specs.Hierarchy.{IsHierarchyOf}
 use Rattle.schema_kinds.specs.Classes as classes
 use Rattle.class_extents.specs.declared.extent.Extent.{Extent}

@@ -125,7 +125,7 @@ fn clashes_in_name(
     if !has_ids(sort_at(hierarchy, tables, class)) {
         return Ok(false);
     }
-    let entries = find_entries(alloc, trees, members, spots)?;
+    let entries = find_entries(alloc, trees, tables.members.as_slice(), members, spots)?;
     if any_clash(trees, entries.as_slice(), extent) {
         return Ok(true);
     }

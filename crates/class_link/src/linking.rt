@@ -48,7 +48,7 @@ fn find_names(alloc: Global, headers: &Headers) -> Result<(NameTable, Option<usi
     ensures first { IfOk result (λ r. r.1 ≡ first_repeated 0 [] (names_of headers.now)) }
 {
     let mut names = NameTable::new(alloc);
-    let found = add_names(alloc, headers.as_slice(), 0, &mut names)?;
+    let found = add_names(alloc, headers.as_slice(), &mut names)?;
     Ok((names, found))
 }
 
@@ -274,5 +274,6 @@ pub fn link(alloc: Global, trees: ClassTrees) -> Result<Schema, LinkError>
     check_types(alloc, rows, &hierarchy, &tables)?;
     check_rest(alloc, rows, &hierarchy, &tables)?;
     let classes = build_classes(alloc, rows, &hierarchy, &tables)?;
-    Ok(Schema::new(classes, hierarchy))
+    let schema = Schema::new(alloc, classes, hierarchy)?;
+    Ok(schema)
 }

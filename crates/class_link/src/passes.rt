@@ -39,24 +39,17 @@ fn add_name(alloc: Global, header: &Header, names: &mut NameTable) -> Result<boo
 pub fn add_names(
     alloc: Global,
     headers: &[Header],
-    class: usize,
     names: &mut NameTable,
 ) -> Result<Option<usize>, NoMemory>
-    requires { class + length headers.now < 2 ^ 63 }
     ensures all { IfOk result (IfNoneThen (names.new ≡ names.old ++ names_of headers.now)) }
-    ensures first { IfOk result (λ found. found ≡ first_repeated class names.old (names_of headers.now)) }
+    ensures first { IfOk result (λ found. found ≡ first_repeated 0 names.old (names_of headers.now)) }
 {
-    match headers.split_first() {
-        None => Ok(None),
-        Some((header, rest)) => {
-            let is_new = add_name(alloc, header, names)?;
-            if !is_new {
-                return Ok(Some(class));
-            }
-            let found = add_names(alloc, rest, class + 1, names)?;
-            Ok(found)
+    for (class, header) in headers.iter().enumerate() {
+        if !add_name(alloc, header, names)? {
+            return Ok(Some(class));
         }
     }
+    Ok(None)
 }
 
 fn is_in_ring(hierarchy: &Hierarchy, class: usize) -> bool

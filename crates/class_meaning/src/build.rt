@@ -1,7 +1,7 @@
-ghost use Rattle.std.specs.Prelude.{◌≡◌, ◌++◌, ◌+◌, ◌<◌, ◌^◌, length, filter_map, option_and_then, IfOk, OnOk};
+ghost use Rattle.std.specs.Prelude.{◌≡◌, ◌++◌, filter_map, option_to_list, option_and_then, IfOk, OnOk};
 ghost use Rattle.class_facts.specs.Trees.{prop_at, index_at, spots_in};
 ghost use Rattle.class_facts.specs.Facts.{seen, props_in, indexes_in};
-ghost use Rattle.class_meaning.specs.Meaning.{prop_of, class_with, classes_from, classes_of};
+ghost use Rattle.class_meaning.specs.Meaning.{prop_of, class_with, classes_of};
 
 use crate::kinds::build_prop;
 use class_facts::{Spot, Tables, index_at_spot, prop_at_spot, sort_at};
@@ -30,6 +30,22 @@ fn prop_built_at(
     }
 }
 
+fn push_prop(
+    alloc: Global,
+    trees: &[ClassTree],
+    hierarchy: &Hierarchy,
+    tables: &Tables,
+    spot: Spot,
+    props: &mut Props,
+) -> Result<(), NoMemory>
+    ensures { OnOk result (props.new ≡ props.old ++ option_to_list (option_and_then (prop_of (seen hierarchy.now tables.now)) (prop_at trees.now spot))) }
+{
+    if let Some(prop) = prop_built_at(alloc, trees, hierarchy, tables, spot)? {
+        props.push(prop)?;
+    }
+    Ok(())
+}
+
 fn push_props(
     alloc: Global,
     trees: &[ClassTree],
@@ -40,11 +56,22 @@ fn push_props(
 ) -> Result<(), NoMemory>
     ensures { OnOk result (props.new ≡ props.old ++ filter_map (λ s. option_and_then (prop_of (seen hierarchy.now tables.now)) (prop_at trees.now s)) spots.now) }
 {
-    if let Some((spot, rest)) = spots.split_first() {
-        if let Some(prop) = prop_built_at(alloc, trees, hierarchy, tables, *spot)? {
-            props.push(prop)?;
-        }
-        push_props(alloc, trees, hierarchy, tables, rest, props)?;
+    for spot in spots {
+        push_prop(alloc, trees, hierarchy, tables, *spot, props)?;
+    }
+    Ok(())
+}
+
+fn push_index(
+    alloc: Global,
+    trees: &[ClassTree],
+    spot: Spot,
+    indexes: &mut Indexes,
+) -> Result<(), NoMemory>
+    ensures { OnOk result (indexes.new ≡ indexes.old ++ option_to_list (index_at trees.now spot)) }
+{
+    if let Some(index) = index_at_spot(trees, spot) {
+        indexes.push(index.copy(alloc)?)?;
     }
     Ok(())
 }
@@ -57,11 +84,8 @@ fn push_indexes(
 ) -> Result<(), NoMemory>
     ensures { OnOk result (indexes.new ≡ indexes.old ++ filter_map (index_at trees.now) (spots_in pairs.now)) }
 {
-    if let Some((pair, rest)) = pairs.split_first() {
-        if let Some(index) = index_at_spot(trees, pair.1) {
-            indexes.push(index.copy(alloc)?)?;
-        }
-        push_indexes(alloc, trees, rest, indexes)?;
+    for pair in pairs {
+        push_index(alloc, trees, pair.1, indexes)?;
     }
     Ok(())
 }
@@ -137,25 +161,6 @@ fn build_class(
     })
 }
 
-fn push_classes(
-    alloc: Global,
-    trees: &[ClassTree],
-    hierarchy: &Hierarchy,
-    tables: &Tables,
-    from: usize,
-    rest: &[ClassTree],
-    classes: &mut Classes,
-) -> Result<(), NoMemory>
-    requires { from + length rest.now < 2 ^ 63 }
-    ensures { OnOk result (classes.new ≡ classes.old ++ classes_from trees.now (seen hierarchy.now tables.now) from rest.now) }
-{
-    if let Some((tree, more)) = rest.split_first() {
-        classes.push(build_class(alloc, trees, hierarchy, tables, from, tree)?)?;
-        push_classes(alloc, trees, hierarchy, tables, from + 1, more, classes)?;
-    }
-    Ok(())
-}
-
 /// The classes of the schema, in the order of the files.
 pub fn build_classes(
     alloc: Global,
@@ -166,6 +171,8 @@ pub fn build_classes(
     ensures { IfOk result (λ classes. classes ≡ classes_of trees.now (seen hierarchy.now tables.now)) }
 {
     let mut classes = Items::new(alloc);
-    push_classes(alloc, trees, hierarchy, tables, 0, trees, &mut classes)?;
+    for (place, tree) in trees.iter().enumerate() {
+        classes.push(build_class(alloc, trees, hierarchy, tables, place, tree)?)?;
+    }
     Ok(classes)
 }

@@ -1,4 +1,4 @@
-use Rattle.std.proofs.Common.{◌≡◌, ◌+◌, ℕ, length, slice_get, Some, ap, ◌∙◌, arith}
+use Rattle.std.proofs.Common.{◌≡◌, ◌+◌, length, slice_get, Some, ap, ◌∙◌, arith}
 use Rattle.schema_kinds.specs.Links.{rank}
 use Rattle.class_facts.proofs.FactLemmas.{get-count}
 use Rattle.class_facts.proofs.members.rank_at.Goals as goal

@@ -1,7 +1,5 @@
-use Rattle.std.proofs.Common.{◌≡◌, Some, None, ◌∙◌}
+use Rattle.std.proofs.Common.{◌∙◌}
 use Rattle.class_facts.specs.Facts.{seen}
-use Rattle.class_extents.specs.Extents.{extent_of}
-use Rattle.class_extents.specs.Books.{extent_with}
 use Rattle.class_link.proofs.Preparing.{extent-right}
 use Rattle.class_link.proofs.linking.prepared_reason.Goals as goal
 

@@ -1,4 +1,4 @@
-use Rattle.std.proofs.Common.{None, slice_get, ap, ◌∙◌}
+use Rattle.std.proofs.Common.{slice_get, ap, ◌∙◌}
 use Rattle.class_facts.proofs.SpotLists.{no-spot}
 use Rattle.class_facts.proofs.spots.SpotTable.push_spot.Goals as goal
 

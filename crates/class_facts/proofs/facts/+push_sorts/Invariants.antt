@@ -1,5 +1,0 @@
-use Rattle.std.proofs.Common.{length}
-use Rattle.class_facts.proofs.facts.+push_sorts.Given as goal
-
-abbrev pub decreases-push_sorts : goal.decreases-push_sorts
-decreases-push_sorts l = length l.tops.now

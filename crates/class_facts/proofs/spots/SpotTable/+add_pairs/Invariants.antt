@@ -1,5 +1,0 @@
-use Rattle.std.proofs.Common.{length}
-use Rattle.class_facts.proofs.spots.SpotTable.+add_pairs.Given as goal
-
-abbrev pub decreases-add_pairs : goal.decreases-add_pairs
-decreases-add_pairs l = length l.pairs.now

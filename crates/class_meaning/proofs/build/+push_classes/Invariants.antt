@@ -1,5 +1,0 @@
-use Rattle.std.proofs.Common.{length}
-use Rattle.class_meaning.proofs.build.+push_classes.Given as goal
-
-abbrev pub decreases-push_classes : goal.decreases-push_classes
-decreases-push_classes l = length l.rest.now

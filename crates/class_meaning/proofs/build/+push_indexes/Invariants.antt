@@ -1,5 +1,0 @@
-use Rattle.std.proofs.Common.{length}
-use Rattle.class_meaning.proofs.build.+push_indexes.Given as goal
-
-abbrev pub decreases-push_indexes : goal.decreases-push_indexes
-decreases-push_indexes l = length l.pairs.now
