@@ -72,7 +72,7 @@ pub record IsBadForm (words : List (List ℕ)) (contents : List ℕ → Contents
   pub links : CanLink trees
   pub not_in_form : NotInForm trees input.script_text
 
-abbrev pub IsRefused : List (List ℕ) → (List ℕ → Option (List ℕ)) → Option (List (List ℕ)) → Option (List (List ℕ)) → ℕ → ℕ → Refusal → Type 0
+abbrev pub IsRefused : List (List ℕ) → (List ℕ → Contents) → Option (List (List ℕ)) → Option (List (List ℕ)) → ℕ → ℕ → Refusal → Type 0
 IsRefused words contents asked asked' faults faults' BadWords = AreNoRunWords words × (asked' ≡ asked)
 IsRefused words contents asked asked' faults faults' (TooLong name) = IsTooLong words contents asked asked' name.now
 IsRefused words contents asked asked' faults faults' (NotRead name) = IsNotRead words asked asked' faults faults' name.now
