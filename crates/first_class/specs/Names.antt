@@ -1,12 +1,10 @@
 -- Names of variables and properties.
 use Rattle.std.specs.Prelude.{ℕ, Bool, false, ◌&&◌, ◌||◌, nat_le, List, [], ◌∷◌, length}
 use Rattle.std.specs.List.{list_all}
+pub use Rattle.obj_kinds.specs.LeadingNumber.{is_digit}
 
 abbrev pub is_letter : ℕ → Bool
 is_letter byte = (nat_le 65 byte && nat_le byte 90) || (nat_le 97 byte && nat_le byte 122)
-
-abbrev pub is_digit : ℕ → Bool
-is_digit byte = nat_le 48 byte && nat_le byte 57
 
 abbrev pub is_alphanumeric : ℕ → Bool
 is_alphanumeric byte = is_letter byte || is_digit byte

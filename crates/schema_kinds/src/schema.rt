@@ -32,7 +32,7 @@ impl Model for Schema {
     ghost invariant = { λ s. IsSchema s.classes s.hierarchy s.globals };
 }
 
-fn is_stored(sort: Sort) -> bool
+fn is_persistent(sort: Sort) -> bool
     ensures { result ≡ is_persistent sort }
 {
     match sort {
@@ -46,7 +46,7 @@ fn is_stored(sort: Sort) -> bool
 pub(crate) fn is_extent_root(names: &NameTable, class: &Class) -> bool
     ensures { result ≡ is_root names.now class.now }
 {
-    is_stored(class.sort) && find_first(names, class.supers.as_slice()).is_none()
+    is_persistent(class.sort) && find_first(names, class.supers.as_slice()).is_none()
 }
 
 fn short_part<'a>(text: &'a [u8], best: &'a [u8]) -> &'a [u8]
@@ -120,7 +120,7 @@ impl Schema {
     {
         let place = self.place(name)?;
         let class = self.classes.get(place)?;
-        if !is_stored(class.sort) {
+        if !is_persistent(class.sort) {
             return None;
         }
         let root = self.classes.get(self.hierarchy.top(place))?;
