@@ -1,0 +1,10 @@
+pub mod InverseLaws
+pub mod ItemLaws
+pub mod ReadLaws
+pub mod StepLaws
+pub mod DamageLaws
+pub mod RecordLaws
+pub mod KeyLaws
+pub mod SourceLaws
+pub mod LineLaws
+pub mod SchemaLaws

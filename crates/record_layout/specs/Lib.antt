@@ -1,0 +1,9 @@
+pub mod Inverse
+pub mod Shapes
+pub mod Items
+pub mod Layout
+pub mod Rows
+pub mod Reading
+pub mod Records
+pub mod Laws
+pub mod Schemas
