@@ -14,7 +14,7 @@ use Rattle.lock_table.specs.Conflict.{conflicts, refusing}
 use Rattle.lock_table.specs.Calls.{IsFirstAgainst}
 use Rattle.lock_table.proofs.HoldOrder.{hold_total, hold_exact}
 use Rattle.lock_table.proofs.HoldLaws.{one_hold}
-use Rattle.lock_table.proofs.Sorted.{stays, first, second, less, turned}
+use Rattle.obj_kinds.proofs.Sorted.{stays, first, second, less, turned}
 
 abbrev holds_of : List (Hold × Kept) → List Hold
 holds_of es = map (λ e. e.0) es

@@ -1,5 +1,5 @@
 -- What the changes of a table keep.
-use Rattle.std.proofs.Common.{◌≡◌, ◌-◌, Bool, true, false, cond, ◌||◌, List, [], ◌∷◌, Option, Some, None, is_some, unwrap_or, refl, sym, ap, ap₂, subst, ◌∙◌, arith, IsTrue}
+use Rattle.std.proofs.Common.{◌≡◌, ◌-◌, Bool, true, false, cond, ◌||◌, List, [], ◌∷◌, Option, Some, None, is_some, unwrap_or, refl, sym, ap, ap₂, subst, ◌∙◌, arith, IsTrue, ◌⊎◌, inl, inr}
 use Rattle.std.specs.declared.cmp.Ordering.{Ordering}
 use Rattle.std.specs.declared.cmp.Ordering.TheVariants.{Less, Equal, Greater}
 use Rattle.std.specs.Ordering.{eq_by_cmp, is_eq}
@@ -15,8 +15,7 @@ use Rattle.lock_table.specs.Holds.{Holds, hold_cmp, kept, unheld, is_counted, is
 use Rattle.lock_table.specs.Conflict.{conflicts, refusing, asked}
 use Rattle.lock_table.specs.Calls.{IsFree, AllHeld}
 use Rattle.lock_table.proofs.HoldOrder.{hold_total, hold_exact}
-use Rattle.lock_table.proofs.Sorted.{truth, stays as is_true, first, second, less}
-use Rattle.lock_table.proofs.Edits.{rekept_sorted}
+use Rattle.obj_kinds.proofs.Sorted.{truth, stays as is_true, first, second, both, less}
 
 tie : (r : Ordering) → is_eq r ≡ true → r ≡ Equal
 tie Less h = cc
@@ -27,6 +26,22 @@ pub one_hold : (q h : Hold) → eq_by_cmp hold_cmp q h ≡ true → q ≡ h
 one_hold q h e = hold_exact q h (tie _ e)
 
 -- ---- what a hold is kept as after a change of all
+below_rekept : (f : Hold → Kept → Kept) (h : Hold) (es : List (Hold × Kept)) → IsTrue (below_all hold_cmp h es) → IsTrue (below_all hold_cmp h (rekept f es))
+below_rekept f h [] b = b
+below_rekept f h (e ∷ es) b = by (is_held (f e.0 e.1)) (below_rekept f h es (second _ _ b))
+  where
+    by : (c : Bool) → IsTrue (below_all hold_cmp h (rekept f es)) → IsTrue (below_all hold_cmp h (cond c ((e.0, f e.0 e.1) ∷ rekept f es) (rekept f es)))
+    by true rest = both _ _ (first _ _ b) rest
+    by false rest = rest
+
+rekept_sorted : (f : Hold → Kept → Kept) (es : List (Hold × Kept)) → IsTrue (is_sorted hold_cmp es) → IsTrue (is_sorted hold_cmp (rekept f es))
+rekept_sorted f [] s = s
+rekept_sorted f (e ∷ es) s = by (is_held (f e.0 e.1)) (rekept_sorted f es (second _ _ s))
+  where
+    by : (c : Bool) → IsTrue (is_sorted hold_cmp (rekept f es)) → IsTrue (is_sorted hold_cmp (cond c ((e.0, f e.0 e.1) ∷ rekept f es) (rekept f es)))
+    by true rest = both _ _ (below_rekept f e.0 es (first _ _ s)) rest
+    by false rest = rest
+
 abbrev pub rekept_at : (Hold → Kept → Kept) → Hold → Option Kept → Option Kept
 rekept_at f q None = None
 rekept_at f q (Some c) = cond (is_held (f q c)) (Some (f q c)) None
@@ -183,7 +198,7 @@ given_back_held hs h in_tran held = by (is_counted (kept hs h))
 pub dropped_held : (hs : Holds) (p : Hold → Bool) → AllHeld hs → AllHeld (retain_keys hs p)
 dropped_held hs p held q = subst IsHeldAt (sym (get-dropped hs p q)) (held_or (p q) (get hs q) None (held q) (λ there. cc))
 
-raised_held : (k : Keep) (c : Kept) → is_held (raised k c) ≡ true
+pub raised_held : (k : Keep) (c : Kept) → is_held (raised k c) ≡ true
 raised_held Counted c = grind (arith, nat_tests)
 raised_held ToEnd c = or_true (is_counted c)
   where
@@ -201,3 +216,19 @@ asked_held hs h k held = by (is_some (refusing hs h))
     by : (b : Bool) → AllHeld (cond b hs (granted hs h k))
     by true = held
     by false = granted_held hs h k held
+
+-- ---- what a lock may add
+granted_keys : (hs : Holds) (h : Hold) (k : Keep) (x : Hold) → contains_key (granted hs h k) x ≡ true → (x ≡ h) ⊎ (contains_key hs x ≡ true)
+unfolding granted
+granted_keys hs h k x there = by (eq_by_cmp hold_cmp x h) refl (sym (ap is_some (get-insert hold_total hs h (raised k (kept hs h)) x)) ∙ there)
+  where
+    by : (t : Bool) → eq_by_cmp hold_cmp x h ≡ t → is_some (cond t (Some (raised k (kept hs h))) (get hs x)) ≡ true → (x ≡ h) ⊎ (contains_key hs x ≡ true)
+    by true e i = inl (one_hold x h e)
+    by false e i = inr i
+
+pub asked_keys : (hs : Holds) (h : Hold) (k : Keep) (x : Hold) → contains_key (asked hs h k) x ≡ true → (x ≡ h) ⊎ (contains_key hs x ≡ true)
+asked_keys hs h k x = by (is_some (refusing hs h))
+  where
+    by : (b : Bool) → contains_key (cond b hs (granted hs h k)) x ≡ true → (x ≡ h) ⊎ (contains_key hs x ≡ true)
+    by true e = inr e
+    by false e = granted_keys hs h k x e

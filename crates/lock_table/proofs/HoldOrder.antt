@@ -19,18 +19,18 @@ hold_total =
     then_total (on_total (λ h. h.node) node_total) (then_total (on_total (λ h. h.pid.0) nat_cmp_total)
     (then_total (on_total (λ h. mode_rank h.mode) nat_cmp_total) (on_total (λ h. owner_rank h.owner) nat_cmp_total)))
 
-both_equal : (a b : Ordering) → ordering_then a b ≡ Equal → (a ≡ Equal) × (b ≡ Equal)
+pub both_equal : (a b : Ordering) → ordering_then a b ≡ Equal → (a ≡ Equal) × (b ≡ Equal)
 both_equal Less b h = cc
 both_equal Equal b h = (refl, h)
 both_equal Greater b h = cc
 
-same_mode : (a b : Mode) → mode_rank a ≡ mode_rank b → a ≡ b
+pub same_mode : (a b : Mode) → mode_rank a ≡ mode_rank b → a ≡ b
 same_mode Shared Shared e = refl
 same_mode Shared Exclusive e = absurd (omega arith)
 same_mode Exclusive Shared e = absurd (omega arith)
 same_mode Exclusive Exclusive e = refl
 
-same_owner : (a b : Owner) → owner_rank a ≡ owner_rank b → a ≡ b
+pub same_owner : (a b : Owner) → owner_rank a ≡ owner_rank b → a ≡ b
 same_owner Script Script e = refl
 same_owner Script Object e = absurd (omega arith)
 same_owner Object Script e = absurd (omega arith)

@@ -1,11 +1,10 @@
-pub mod CallLaws
-pub mod Edits
-pub mod FirstLaws
+mod HoldOrder
 pub mod HoldLaws
-pub mod HoldOrder
 pub mod KeptLaws
-pub mod Line
-pub mod Rows
-pub mod ScanLaws
-pub mod Sorted
-pub mod TableLaws
+mod CallLaws
+pub mod FirstLaws
+mod RowLaws
+mod Found
+mod TurnLaws
+mod AgainstLaws
+mod TableLaws

@@ -1,5 +1,6 @@
 pub mod Holds
 pub mod Conflict
 pub mod Calls
-pub mod Places
-pub mod Scan
+pub mod Holders
+pub mod Table
+pub mod Against

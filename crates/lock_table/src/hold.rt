@@ -1,11 +1,8 @@
 ghost use Rattle.std.specs.Prelude.{◌≡◌, ◌-◌, ◌^◌, ◌<◌, false};
-ghost use Rattle.std.specs.Ordering.{nat_cmp};
 ghost use Rattle.obj_kinds.specs.declared.op.Keep.TheVariants.{Counted};
-ghost use Rattle.lock_table.specs.Holds.{hold, hold_cmp, mode_rank, owner_rank, is_exclusive, is_script, is_held, is_counted, is_of, raised, lowered, stays, unheld};
-ghost use Rattle.lock_table.specs.Conflict.{excludes};
+ghost use Rattle.lock_table.specs.Holds.{is_held, is_counted, raised, lowered, unheld};
 
 use obj_kinds::{Keep, Mode, Node, Owner, Pid};
-use std::cmp::Ordering;
 
 /// Who holds which node, in which mode, and on whose behalf.
 #[derive(Debug, Drop)]
@@ -23,79 +20,6 @@ pub struct Kept {
     pub counted: u64,
     /// Whether it stays to the end of the outermost transaction.
     pub to_end: bool,
-}
-
-fn is_exclusive(mode: Mode) -> bool
-    ensures { result ≡ is_exclusive mode }
-{
-    match mode {
-        Mode::Shared => false,
-        Mode::Exclusive => true,
-    }
-}
-
-fn is_script(owner: Owner) -> bool
-    ensures { result ≡ is_script owner }
-{
-    match owner {
-        Owner::Script => true,
-        Owner::Object => false,
-    }
-}
-
-fn compare_modes(left: Mode, right: Mode) -> Ordering
-    ensures { result ≡ nat_cmp (mode_rank left) (mode_rank right) }
-{
-    left.cmp(&right)
-}
-
-fn compare_owners(left: Owner, right: Owner) -> Ordering
-    ensures { result ≡ nat_cmp (owner_rank left) (owner_rank right) }
-{
-    left.cmp(&right)
-}
-
-impl Hold {
-    /// The order of holds: by node, then by pid, then shared before exclusive, then a script's
-    /// before an object's.
-    #[tactic(auto, unfolding(crate::specs::Holds::hold_cmp))]
-    pub fn compare(&self, pid: Pid, node: &Node, mode: Mode, owner: Owner) -> Ordering
-        ensures { result ≡ hold_cmp self.now (hold pid node.now mode owner) }
-    {
-        match self.node.compare(node) {
-            Ordering::Equal => match self.pid.0.cmp(&pid.0) {
-                Ordering::Equal => match compare_modes(self.mode, mode) {
-                    Ordering::Equal => compare_owners(self.owner, owner),
-                    order => order,
-                },
-                order => order,
-            },
-            order => order,
-        }
-    }
-
-    /// Whether it keeps a process from holding a node in line in this mode: it is another
-    /// process's, and not both are shared.
-    pub fn excludes(&self, pid: Pid, mode: Mode) -> bool
-        ensures { result ≡ excludes pid mode self.now }
-    {
-        pid.0 != self.pid.0 && (is_exclusive(mode) || is_exclusive(self.mode))
-    }
-
-    /// Whether it is this process's, on behalf of this owner.
-    pub fn is_of(&self, pid: Pid, owner: Owner) -> bool
-        ensures { result ≡ is_of pid owner self.now }
-    {
-        self.pid.0 == pid.0 && matches!(compare_owners(self.owner, owner), Ordering::Equal)
-    }
-
-    /// Whether it stays to the end of the transaction when it is given back: it is a script's
-    /// exclusive lock, and a transaction is open.
-    pub fn stays(&self, in_tran: bool) -> bool
-        ensures { result ≡ stays in_tran self.now }
-    {
-        in_tran && is_script(self.owner) && is_exclusive(self.mode)
-    }
 }
 
 impl Kept {

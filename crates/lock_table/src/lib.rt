@@ -5,14 +5,14 @@
 #![tactic(auto)]
 
 mod hold;
+mod holder;
 mod laws;
+mod listed;
 mod locks;
 mod refusal;
-mod search;
+mod rows;
+mod turn;
 
 pub use hold::{Hold, Kept};
 pub use laws::{first_refuses, kept_after_changes, no_two_conflict};
 pub use locks::Locks;
-
-#[cfg(test)]
-mod tests;

@@ -1,58 +1,44 @@
-ghost use Rattle.std.specs.Prelude.{◌≡◌, ◌-◌, ◌^◌, ◌<◌, IfOk, OnOk, OnErr};
-ghost use Rattle.std.specs.FinMap.{empty};
+ghost use Rattle.std.specs.Prelude.{◌≡◌, ◌-◌, ◌^◌, ◌<◌, ◌==◌, cond, true, IfOk, OnOk, OnErr};
+ghost use Rattle.std.specs.FinMap.{empty, get, contains_key};
 ghost use Rattle.obj_kinds.specs.declared.op.Keep.TheVariants.{Counted};
-ghost use Rattle.lock_table.specs.Holds.{hold, kept, granted, is_held, given_back, all_back, all_given_back, without_end, tran_ended, all_dropped};
+ghost use Rattle.lock_table.specs.declared.hold.Hold.{Hold as AnyHold};
+ghost use Rattle.lock_table.specs.Holds.{hold, kept, granted, put, given_back, all_given_back, tran_ended, all_dropped};
+ghost use Rattle.lock_table.specs.Holders.{holder_of, hold_on, left_by};
 ghost use Rattle.lock_table.specs.Conflict.{asked, ask_reply, release_reply};
+ghost use Rattle.lock_table.specs.Calls.{AllHeld};
 
-use crate::hold::{Hold, Kept};
-use crate::refusal::refuser;
-use crate::search::search_hold;
+use crate::hold::Kept;
+use crate::holder::{Change, Holder};
+use crate::listed::{list, unlist};
+use crate::refusal::{Verdict, refuser};
+use crate::rows::{holds_any, keep_anew, keep_new, look_up};
+use crate::turn::change_listed;
 use obj_kinds::{Keep, Mode, NoMemory, Node, Owner, Pid, Reply};
 use std::alloc::Global;
+use std::collections::{BTreeMap, BTreeSet};
 use std::marker::Model;
 
 /// All locks of all processes, seen as the map from the holds to how they are kept.
 #[derive(Drop)]
 pub struct Locks {
-    rows: Vec<(Hold, Kept)>,
+    rows: BTreeMap<Node, BTreeMap<Holder, Kept>>,
+    listed: BTreeMap<u32, BTreeSet<Node>>,
 }
 
 impl Model for Locks {
-    ghost use Rattle.std.specs.Prelude.{IsTrue};
     ghost use Rattle.std.specs.FinMap as map;
     ghost use Rattle.lock_table.specs.contracts.hold.Hold as hold_row;
     ghost use Rattle.lock_table.specs.contracts.hold.Kept as kept_row;
-    ghost use Rattle.lock_table.specs.Holds.{Holds, hold_cmp};
+    ghost use Rattle.lock_table.specs.Holds.{Holds};
+    ghost use Rattle.lock_table.specs.Table.{holds_of, IsTable};
 
     ghost Value = { Holds };
 
     ghost coded = { map.code (hold_row.the_row).coded (kept_row.the_row).coded };
 
-    ghost view = { λ t. map.from_sorted t.rows.items };
+    ghost view = { λ t. holds_of t.rows };
 
-    ghost invariant = { λ t. IsTrue (map.is_sorted hold_cmp t.rows.items) };
-}
-
-/// Gives all counts of a row back, if it is this process's and owner's; tells whether it is held.
-fn give_all_back(row: &mut (Hold, Kept), pid: Pid, owner: Owner, in_tran: bool) -> bool
-    ensures row { row.new ≡ (row.old.0, all_back pid owner in_tran row.old.0 row.old.1) }
-    ensures held { result ≡ is_held (all_back pid owner in_tran row.old.0 row.old.1) }
-{
-    if row.0.is_of(pid, owner) && row.1.is_counted() {
-        row.1 = row.1.lowered(row.0.stays(in_tran), 0);
-    }
-    row.1.is_held()
-}
-
-/// Ends the transaction at a row, if it is this process's; tells whether it is held.
-fn end_at(row: &mut (Hold, Kept), pid: Pid) -> bool
-    ensures row { row.new ≡ (row.old.0, without_end pid row.old.0 row.old.1) }
-    ensures held { result ≡ is_held (without_end pid row.old.0 row.old.1) }
-{
-    if row.0.pid.0 == pid.0 {
-        row.1 = row.1.without_end();
-    }
-    row.1.is_held()
+    ghost invariant = { λ t. IsTable t.rows t.listed };
 }
 
 impl Locks {
@@ -61,7 +47,8 @@ impl Locks {
         ensures { result ≡ empty }
     {
         Locks {
-            rows: Vec::new(alloc),
+            rows: BTreeMap::new(alloc),
+            listed: BTreeMap::new(alloc),
         }
     }
 
@@ -69,9 +56,9 @@ impl Locks {
     pub fn kept(&self, pid: Pid, node: &Node, mode: Mode, owner: Owner) -> Kept
         ensures { result ≡ kept self.now (hold pid node.now mode owner) }
     {
-        match search_hold(self.rows.as_slice(), pid, node, mode, owner) {
-            Ok(at) => self.rows[at].1,
-            Err(_) => Kept::unheld(),
+        match look_up(&self.rows, node, Holder { pid, mode, owner }) {
+            Some(kept) => kept,
+            None => Kept::unheld(),
         }
     }
 
@@ -93,14 +80,14 @@ impl Locks {
         ensures after { OnOk result (self.new ≡ asked self.old (hold pid node.now mode owner) keep) }
         ensures err { OnErr result (self.new ≡ self.old) }
     {
-        match refuser(self.rows.as_slice(), pid, node, mode) {
-            Some(hold) => Ok(Reply::Held {
-                pid: hold.pid,
-                node: hold.node.copy(alloc)?,
-                mode: hold.mode,
+        match refuser(alloc, &self.rows, pid, node, mode)? {
+            Verdict::Refused { node, holder } => Ok(Reply::Held {
+                pid: holder.pid,
+                node,
+                mode: holder.mode,
             }),
-            None => {
-                self.grant(alloc, pid, node, mode, owner, keep)?;
+            Verdict::Free(node) => {
+                self.grant(alloc, node, Holder { pid, mode, owner }, keep)?;
                 Ok(Reply::Granted)
             }
         }
@@ -110,38 +97,35 @@ impl Locks {
     fn grant(
         &mut self,
         alloc: Global,
-        pid: Pid,
-        node: &Node,
-        mode: Mode,
-        owner: Owner,
+        node: Node,
+        holder: Holder,
         keep: Keep,
     ) -> Result<(), NoMemory>
-        requires { keep ≡ Counted → (kept self.old (hold pid node.now mode owner)).counted < 2 ^ 64 - 1 }
-        ensures ok { OnOk result (self.new ≡ granted self.old (hold pid node.now mode owner) keep) }
+        requires { keep ≡ Counted → (kept self.old (hold_on node holder)).counted < 2 ^ 64 - 1 }
+        ensures ok { OnOk result (self.new ≡ granted self.old (hold_on node holder) keep) }
         ensures err { OnErr result (self.new ≡ self.old) }
     {
-        match search_hold(self.rows.as_slice(), pid, node, mode, owner) {
-            Ok(at) => {
-                let row = &mut self.rows[at];
-                row.1 = row.1.raised(keep);
-                Ok(())
-            }
-            Err(at) => {
-                let node = node.copy(alloc)?;
-                let hold = Hold {
-                    node,
-                    pid,
-                    mode,
-                    owner,
-                };
-                self.rows.insert(at, (hold, Kept::unheld().raised(keep)))?;
-                Ok(())
-            }
+        let kept = self
+            .kept(holder.pid, &node, holder.mode, holder.owner)
+            .raised(keep);
+        list(alloc, &mut self.listed, holder.pid, &node)?;
+        keep_new(alloc, &mut self.rows, node, holder, kept)
+    }
+
+    /// Keeps a hold that is there anew; what is no longer held is taken out.
+    fn keep(&mut self, node: &Node, holder: Holder, kept: Kept)
+        requires { contains_key self.old (hold_on node.now holder) ≡ true }
+        ensures { self.new ≡ put self.old (hold_on node.now holder) kept }
+    {
+        keep_anew(&mut self.rows, node, holder, kept);
+        if !holds_any(&self.rows, node, holder.pid) {
+            unlist(&mut self.listed, holder.pid, node);
         }
     }
 
     /// Gives one count of a lock back: `Done`, or `NotHeld` where it has none, which changes
-    /// nothing. A script's exclusive lock that is given back in a transaction stays to its end.
+    /// nothing. A script's exclusive lock that is given back in a transaction stays to its end. It
+    /// takes no memory.
     pub fn release(
         &mut self,
         pid: Pid,
@@ -153,41 +137,45 @@ impl Locks {
         ensures reply { result ≡ release_reply self.old (hold pid node.now mode owner) }
         ensures after { self.new ≡ given_back self.old (hold pid node.now mode owner) in_tran }
     {
-        match search_hold(self.rows.as_slice(), pid, node, mode, owner) {
-            Ok(at) => {
-                let row = &mut self.rows[at];
-                if !row.1.is_counted() {
-                    return Reply::NotHeld;
-                }
-                row.1 = row.1.lowered(row.0.stays(in_tran), row.1.counted - 1);
-                if !row.1.is_held() {
-                    self.rows.remove(at);
-                }
-                Reply::Done
-            }
-            Err(_) => Reply::NotHeld,
+        let kept = self.kept(pid, node, mode, owner);
+        if !kept.is_counted() {
+            return Reply::NotHeld;
         }
+        let holder = Holder { pid, mode, owner };
+        let left = kept.lowered(holder.remains(in_tran), kept.counted - 1);
+        self.keep(node, holder, left);
+        Reply::Done
     }
 
     /// Gives all counts of a process and an owner back, each as [`Locks::release`] does.
     pub fn release_all(&mut self, pid: Pid, owner: Owner, in_tran: bool)
         ensures { self.new ≡ all_given_back self.old pid owner in_tran }
     {
-        self.rows
-            .retain_mut(|row| give_all_back(row, pid, owner, in_tran));
+        self.change_all(pid, Change::GiveBack { owner, in_tran });
     }
 
     /// Lets all holds of a process go that stay to the end of its transaction, which has come.
     pub fn end_tran(&mut self, pid: Pid)
         ensures { self.new ≡ tran_ended self.old pid }
     {
-        self.rows.retain_mut(|row| end_at(row, pid));
+        self.change_all(pid, Change::EndTran);
     }
 
     /// Lets all holds of a process go.
     pub fn drop_all(&mut self, pid: Pid)
         ensures { self.new ≡ all_dropped self.old pid }
     {
-        self.rows.retain(|row| row.0.pid.0 != pid.0);
+        self.change_all(pid, Change::Drop);
+    }
+
+    /// Carries a change out at all holds of a process. It looks at the nodes that the process
+    /// holds alone, and takes no memory.
+    fn change_all(&mut self, pid: Pid, change: Change)
+        ensures at { (q : AnyHold) → get self.new q ≡ cond (q.pid.0 == pid.0) (left_by change (holder_of q) (get self.old q)) (get self.old q) }
+        ensures held { AllHeld self.old }
+    {
+        if let Some(nodes) = self.listed.get_mut(&pid.0) {
+            change_listed(&mut self.rows, nodes, pid, change);
+        }
     }
 }

@@ -1,87 +1,94 @@
-ghost use Rattle.std.specs.Prelude.{◌≡◌, ◌+◌, ◌<◌, IsTrue, length, map, Some, MatchOption};
-ghost use Rattle.std.specs.Option.{option_copied};
+ghost use Rattle.std.specs.Prelude.{◌≡◌, length, map, Some, MatchOption, IfOk};
 ghost use Rattle.std.specs.List.{find};
-ghost use Rattle.std.specs.FinMap.{is_sorted};
-ghost use Rattle.obj_kinds.specs.Order.{covers};
-ghost use Rattle.obj_kinds.specs.declared.op.Owner.{Owner as Behalf};
-ghost use Rattle.lock_table.specs.Holds.{hold, hold_cmp};
-ghost use Rattle.lock_table.specs.Conflict.{conflicts, excludes};
-ghost use Rattle.lock_table.specs.Scan.{first_while, NoneBefore};
+ghost use Rattle.std.specs.BTreeMap.{keys, IsOrdered};
+ghost use Rattle.lock_table.specs.Holders.{holder_cmp, hold_on, keeps_out};
+ghost use Rattle.lock_table.specs.Against.{IsHolderOn, IsFirstStop, NoneStops, NoneBefore, IsVerdict};
 
-use crate::hold::{Hold, Kept};
-use crate::search::first_from;
-use obj_kinds::{Mode, Node, Pid};
+use crate::holder::Holder;
+use crate::rows::{Holders, Rows};
+use obj_kinds::{Mode, NoMemory, Node, Pid, Subs};
+use std::alloc::Global;
+use std::ops::Bound;
 
-/// The first hold that excludes this one, as long as the holds are of the node and its ancestors.
-fn first_above<'a>(rows: &'a [(Hold, Kept)], pid: Pid, node: &Node, mode: Mode) -> Option<&'a Hold>
-    ensures { option_copied result ≡ first_while (λ x. covers x.node node.now) (excludes pid mode) rows.now }
+/// What stands against a lock.
+#[derive(Drop)]
+pub enum Verdict {
+    /// This holder of this node.
+    Refused { node: Node, holder: Holder },
+    /// Nothing; the node that was asked for again.
+    Free(Node),
+}
+
+/// The first of a node's holders that keeps a process out.
+fn first_against(holders: &Holders, pid: Pid, mode: Mode) -> Option<Holder>
+    ensures first { result ≡ find (keeps_out pid mode) (keys holders.now) }
+    ensures ordered { IsOrdered holder_cmp holders.now }
 {
-    for row in rows {
-        if !row.0.node.covers(node) {
-            return None;
-        }
-        if row.0.excludes(pid, mode) {
-            return Some(&row.0);
+    for (holder, _) in holders.iter() {
+        if holder.keeps_out(pid, mode) {
+            return Some(*holder);
         }
     }
     None
 }
 
-/// The first hold that excludes this one, as long as the holds are of the node and its descendants.
-fn first_under<'a>(rows: &'a [(Hold, Kept)], pid: Pid, node: &Node, mode: Mode) -> Option<&'a Hold>
-    ensures { option_copied result ≡ first_while (λ x. covers node.now x.node) (excludes pid mode) rows.now }
+/// The first holder of a node that keeps a process out.
+fn refuser_at(rows: &Rows, pid: Pid, node: &Node, mode: Mode) -> Option<Holder>
+    ensures { IsHolderOn rows.now pid mode node.now result }
 {
-    for row in rows {
-        if !node.covers(&row.0.node) {
-            return None;
-        }
-        if row.0.excludes(pid, mode) {
-            return Some(&row.0);
-        }
+    match rows.get(node) {
+        Some(holders) => first_against(holders, pid, mode),
+        None => None,
     }
-    None
 }
 
-/// The first hold in conflict, where it is of the ancestor with so many subscripts.
-fn refuser_at<'a>(
-    rows: &'a [(Hold, Kept)],
-    pid: Pid,
-    node: &Node,
-    mode: Mode,
-    len: usize,
-) -> Option<&'a Hold>
-    requires sorted { IsTrue (is_sorted hold_cmp rows.now) }
-    requires len { len < length node.now.subs }
-    ensures { (o : Behalf) → let h = hold pid node.now mode o in NoneBefore len h rows.now → MatchOption result (NoneBefore (len + 1) h rows.now) (λ x. find (conflicts h) (map (λ e. e.0) rows.now) ≡ Some x.now) }
-{
-    let (_, rows) = rows.split_at(first_from(rows, node, len));
-    first_above(rows, pid, node, mode)
-}
-
-/// The first hold in conflict, where it is of the node or a descendant.
+/// The first hold of a node or a descendant that keeps a process out. They stand in one run.
 fn refuser_under<'a>(
-    rows: &'a [(Hold, Kept)],
+    rows: &'a Rows,
     pid: Pid,
     node: &Node,
     mode: Mode,
-) -> Option<&'a Hold>
-    requires { IsTrue (is_sorted hold_cmp rows.now) }
-    ensures { (o : Behalf) → let h = hold pid node.now mode o in NoneBefore (length node.now.subs) h rows.now → option_copied result ≡ find (conflicts h) (map (λ e. e.0) rows.now) }
+) -> Option<(&'a Node, Holder)>
+    requires { NoneBefore (length node.now.subs) rows.now pid mode node.now }
+    ensures { MatchOption result (NoneStops rows.now pid mode node.now) (λ x. IsFirstStop rows.now pid mode node.now (hold_on x.0.now x.1)) }
 {
-    let (_, rows) = rows.split_at(first_from(rows, node, node.subs.len()));
-    first_under(rows, pid, node, mode)
-}
-
-/// The first hold that keeps a process from holding a node in a mode. The ancestors are looked up
-/// one by one; the node and its descendants stand in one run.
-pub fn refuser<'a>(rows: &'a [(Hold, Kept)], pid: Pid, node: &Node, mode: Mode) -> Option<&'a Hold>
-    requires { IsTrue (is_sorted hold_cmp rows.now) }
-    ensures { (o : Behalf) → option_copied result ≡ find (conflicts (hold pid node.now mode o)) (map (λ e. e.0) rows.now) }
-{
-    for len in 0..node.subs.len() {
-        if let Some(hold) = refuser_at(rows, pid, node, mode, len) {
-            return Some(hold);
+    for (place, holders) in rows.range((Bound::Included(node), Bound::Unbounded)) {
+        if !node.covers(place) {
+            return None;
+        }
+        if let Some(holder) = first_against(holders, pid, mode) {
+            return Some((place, holder));
         }
     }
-    refuser_under(rows, pid, node, mode)
+    None
+}
+
+/// The first hold that keeps a process from holding a node in a mode: that of an ancestor, looked
+/// up one by one, or of the node or a descendant. It fails only for want of memory.
+pub fn refuser(
+    alloc: Global,
+    rows: &Rows,
+    pid: Pid,
+    node: &Node,
+    mode: Mode,
+) -> Result<Verdict, NoMemory>
+    ensures { IfOk result (λ verdict. IsVerdict rows.now pid mode node.now verdict) }
+{
+    let mut way = Node {
+        global: node.global.copy(alloc)?,
+        subs: Subs::new(alloc),
+    };
+    for sub in node.subs.as_slice() {
+        if let Some(holder) = refuser_at(rows, pid, &way, mode) {
+            return Ok(Verdict::Refused { node: way, holder });
+        }
+        way.subs.push(sub.copy(alloc)?)?;
+    }
+    match refuser_under(rows, pid, &way, mode) {
+        Some((place, holder)) => {
+            let node = place.copy(alloc)?;
+            Ok(Verdict::Refused { node, holder })
+        }
+        None => Ok(Verdict::Free(way)),
+    }
 }

@@ -87,7 +87,7 @@ fn set(alloc: Global, at: u32) -> Result<Op, Failure>
 fn ask(store: &mut Store, op: Op) -> Result<Reply, Failure>
     requires { op ≢ End }
 {
-    if !store.is_live(PID) {
+    if !store.is_live(PID) || !op.is_legal() {
         return Err(Failure::Reply);
     }
     Ok(store.apply(PID, op)?)

@@ -13,3 +13,4 @@ pub mod QuietLaws
 pub mod OpenLaws
 pub mod StoreLaws
 pub mod LedgerLaws
+pub mod WithinLaws

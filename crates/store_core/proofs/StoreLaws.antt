@@ -17,6 +17,9 @@ use Rattle.store_core.specs.Volume.{volume, entry_volume, op_volume, reply_volum
 use Rattle.store_core.specs.Live.{is_end, ends}
 use Rattle.store_core.specs.Ledger.{Pairs, Ledger, opened, state_of, next_entry, end_entry, with_entry, volume_with, IsSound}
 use Rattle.store_core.specs.Tied.{Logs, IsOwed, IsTied}
+use Rattle.obj_kinds.specs.Limits.{is_legal_op, is_legal_reply}
+use Rattle.store_core.specs.Within.{IsWithinLimits, AreLegalOps, AreLegalReplies}
+use Rattle.store_core.proofs.WithinLaws.{opening_within, states_within, replies_within, reply_within}
 use Rattle.store_core.specs.Stands.{IsStore}
 use Rattle.store_core.proofs.HistoryLaws.{legal_more, state_more, volume_more}
 use Rattle.store_core.proofs.LiveLaws.{live_has_place, ends_few}
@@ -88,14 +91,24 @@ counts_low {nodes} {tree} {hs} {logs} {es} is h =
 
 -- WHAT THE CALLS LEAVE
 
+ops_more : (es : List Entry) (e : Entry) → AreLegalOps es → is_legal_op e.op ≡ true → AreLegalOps (es ++ e ∷ [])
+ops_more [] e ops legal = (legal, tt)
+ops_more (x ∷ xs) e ops legal = (ops.0, ops_more xs e ops.1 legal)
+
+end_legal : is_legal_op End ≡ true
+unfolding is_legal_op
+end_legal = refl
+
 pub stepped : {nodes : Pairs} {tree : Contents} {hs : Holds} {logs : Logs} {es : List Entry} {places room : ℕ} → IsStore nodes tree hs logs es places room
     → (e : Entry) (tree' : Contents) (hs' : Holds) (logs' : Logs) (places' room' : ℕ) → length logs' ≡ length logs
-    → IsStep (stands nodes logs es) e → IsTied (after (stands nodes logs es) e.pid e.op) tree'.globals hs' logs' → IsOwed tree'.pins logs'
+    → IsStep (stands nodes logs es) e → is_legal_op e.op ≡ true → IsTied (after (stands nodes logs es) e.pid e.op) tree'.globals hs' logs' → IsOwed tree'.pins logs'
     → length es + 1 + (length logs - (ends es + cond (is_end e.op) 1 0)) ≤ places' → room' + entry_volume e ≡ room
     → IsStore nodes tree' hs' logs' (es ++ e ∷ []) places' room'
-stepped {nodes} {tree} {hs} {logs} {es} is e tree' hs' logs' places' room' len step tied owed enough pays = record {
+stepped {nodes} {tree} {hs} {logs} {es} is e tree' hs' logs' places' room' len step limits tied owed enough pays = record {
   some = let s = is.some in omega (arith, len, s);
   rising = is.rising;
+  within = is.within;
+  legal_ops = ops_more es e is.legal_ops limits;
   legal = subst (λ k. IsLegal (opening k (from_entries nodes)) (es ++ e ∷ [])) (sym len) (legal_more (opening (length logs) (from_entries nodes)) es e is.legal step);
   tied =
       subst (λ k. IsTied (state_after (opening k (from_entries nodes)) (es ++ e ∷ [])) tree'.globals hs' logs') (sym len)
@@ -111,6 +124,8 @@ pub refused : {nodes : Pairs} {tree : Contents} {hs : Holds} {logs : Logs} {es :
 refused {nodes} {tree} {hs} {logs} {es} is tree' hs' logs' places' len tied owed more = record {
   some = let s = is.some in omega (arith, len, s);
   rising = is.rising;
+  within = is.within;
+  legal_ops = is.legal_ops;
   legal = subst (λ k. IsLegal (opening k (from_entries nodes)) es) (sym len) is.legal;
   tied = subst (λ k. IsTied (state_after (opening k (from_entries nodes)) es) tree'.globals hs' logs') (sym len) tied;
   owed = owed;
@@ -169,7 +184,7 @@ pub ended_step : {nodes : Pairs} {tree : Contents} {hs : Holds} {logs : Logs} {e
 ended_step {nodes} {tree} {hs} {logs} {es} {places} {room} is p tree' hs' logs' live len tied owed =
     let here = live_has_place (length logs) (from_entries nodes) es p is.legal live in
     let v = volume_end p in
-    stepped is (end_entry p) tree' hs' logs' places room len (live, sym (reply_end (stands nodes logs es) p)) tied owed
+    stepped is (end_entry p) tree' hs' logs' places room len (live, sym (reply_end (stands nodes logs es) p)) end_legal tied owed
     (let enough = is.placed in omega (arith, enough, here.1.1)) (omega (arith, v))
 
 -- the reply of an entry is the machine's, and the room pays for the entry
@@ -192,11 +207,11 @@ entry_pays {s} {p} {op} {r} {room} {left} is =
 
 pub told_step : {nodes : Pairs} {tree : Contents} {hs : Holds} {logs : Logs} {es : List Entry} {places room : ℕ} → IsStore nodes tree hs logs es places room
     → {p : Pid} {op : Op} {r : Reply} {left : ℕ} → Paid (stands nodes logs es) p op r room left
-    → (tree' : Contents) (hs' : Holds) (logs' : Logs) (places' : ℕ) → is_live (stands nodes logs es) p ≡ true → length logs' ≡ length logs
+    → (tree' : Contents) (hs' : Holds) (logs' : Logs) (places' : ℕ) → is_live (stands nodes logs es) p ≡ true → is_legal_op op ≡ true → length logs' ≡ length logs
     → IsTied (after (stands nodes logs es) p op) tree'.globals hs' logs' → IsOwed tree'.pins logs' → length es + (length logs + 1) ≤ places'
     → IsStore nodes tree' hs' logs' (es ++ told_entry p op r ∷ []) places' left
-told_step {nodes} {tree} {hs} {logs} {es} {places} {room} is {p} {op} {r} {left} paid tree' hs' logs' places' live len tied owed enough =
-    stepped is (told_entry p op r) tree' hs' logs' places' left len (live, paid.reply_is) tied owed (omega (arith, enough)) (entry_pays paid)
+told_step {nodes} {tree} {hs} {logs} {es} {places} {room} is {p} {op} {r} {left} paid tree' hs' logs' places' live limits len tied owed enough =
+    stepped is (told_entry p op r) tree' hs' logs' places' left len (live, paid.reply_is) limits tied owed (omega (arith, enough)) (entry_pays paid)
 
 -- what the ledger is then
 pub told_is : (nodes : Pairs) (logs : Logs) (es : List Entry) {p : Pid} {op : Op} {r : Reply} {room left : ℕ} → Paid (stands nodes logs es) p op r room left
@@ -242,3 +257,17 @@ pub ended_is : (nodes : Pairs) (logs logs' : Logs) (es es' : List Entry) (room :
 ended_is nodes logs logs' es es' room l e p len more =
     ap (λ x. ledger nodes logs' x room) more
     ∙ with_is nodes logs logs' es room room l e (end_entry p) len (let v = volume_end p in omega (arith, v))
+
+-- ---- within the limits
+pub stands_within : {nodes : Pairs} {tree : Contents} {hs : Holds} {logs : Logs} {es : List Entry} {places room : ℕ} → IsStore nodes tree hs logs es places room → IsWithinLimits (stands nodes logs es)
+stands_within {nodes} {tree} {hs} {logs} {es} is = states_within _ es (opening_within (length logs) (from_entries nodes) is.within) is.legal_ops
+
+pub answers_within : {nodes : Pairs} {tree : Contents} {hs : Holds} {logs : Logs} {es : List Entry} {places room : ℕ} → IsStore nodes tree hs logs es places room
+    → (p : Pid) (op : Op) → is_legal_reply (reply (stands nodes logs es) p op) ≡ true
+answers_within is p op = reply_within _ p op (stands_within is)
+
+pub history_within : {nodes : Pairs} {tree : Contents} {hs : Holds} {logs : Logs} {es : List Entry} {places room : ℕ} → IsStore nodes tree hs logs es places room
+    → (l : Ledger) → ledger nodes logs es room ≡ l → AreLegalOps l.history × AreLegalReplies l.history
+history_within {nodes} {tree} {hs} {logs} {es} {places} {room} is l e =
+    subst (λ (x : Ledger). AreLegalOps x.history × AreLegalReplies x.history) e
+    (is.legal_ops, replies_within _ es (opening_within (length logs) (from_entries nodes) is.within) is.legal is.legal_ops)

@@ -1,6 +1,7 @@
 pub mod Numbers
 pub mod Machine
 pub mod Volume
+pub mod Within
 pub mod History
 pub mod Tied
 pub mod Cleared

@@ -6,6 +6,8 @@ use Rattle.obj_kinds.specs.declared.value.Value.TheVariants.{Str}
 use Rattle.obj_kinds.specs.declared.value.Value.TheOpen.{Value-F}
 use Rattle.obj_kinds.specs.declared.value.Value.TheFolds.{fold-Value}
 use Rattle.obj_kinds.specs.LeadingNumber.{leading_number}
+pub use Rattle.obj_kinds.specs.Subscript.{is_whole}
+pub use Rattle.obj_kinds.specs.Values.{as_value}
 
 -- the leading number of a text; a list counts 0
 abbrev pub number_step : Value-F ℤ → ℤ
@@ -17,14 +19,6 @@ abbrev pub number_at : Option Value → ℤ
 number_at None = pos 0
 number_at (Some v) = fold-Value ℤ number_step v
 
--- the host's whole numbers have 18 digits at most
-abbrev pub is_whole : ℤ → Bool
-is_whole z = nat_lt (unsigned_abs z) (10 ^ 18)
-
 -- the sum, where it and the number that is there are whole
 unfoldable pub incremented : Option Value → ℤ → Option ℤ
 incremented before k = let n = number_at before in cond (is_whole n && is_whole (n +ℤ k)) (Some (n +ℤ k)) None
-
--- how a number is stored
-abbrev pub as_value : ℤ → Value
-as_value z = Str (signed_decimal z)

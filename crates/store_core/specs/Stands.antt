@@ -8,6 +8,7 @@ use Rattle.store_core.specs.declared.entry.Entry.{Entry}
 use Rattle.store_core.specs.Machine.{opening}
 use Rattle.store_core.specs.History.{IsLegal, state_after}
 use Rattle.store_core.specs.Volume.{volume}
+use Rattle.store_core.specs.Within.{AreLegal, AreLegalOps}
 use Rattle.store_core.specs.Live.{ends}
 use Rattle.store_core.specs.Ledger.{Pairs}
 use Rattle.store_core.specs.Tied.{Logs, IsOwed, IsTied}
@@ -16,6 +17,8 @@ use Rattle.store_core.specs.Tied.{Logs, IsOwed, IsTied}
 pub record IsStore (nodes : Pairs) (tree : Contents) (holds : Holds) (logs : Logs) (history : List Entry) (places room : ℕ) : Type 0 where
   pub some : 1 ≤ length logs
   pub rising : IsTrue (is_sorted node_cmp nodes)
+  pub within : AreLegal (from_entries nodes)
+  pub legal_ops : AreLegalOps history
   pub legal : IsLegal (opening (length logs) (from_entries nodes)) history
   pub tied : IsTied (state_after (opening (length logs) (from_entries nodes)) history) tree.globals holds logs
   pub owed : IsOwed tree.pins logs

@@ -9,7 +9,9 @@ ghost use Rattle.lock_table.specs.declared.hold.Hold.{Hold};
 ghost use Rattle.lock_table.specs.Calls.{IsFree};
 ghost use Rattle.store_core.specs.Cleared.{cleared, outermost};
 ghost use Rattle.store_core.specs.declared.entry.Entry.{Entry};
-ghost use Rattle.store_core.specs.Machine.{State, is_live, levels_at, after, opening};
+ghost use Rattle.store_core.specs.Machine.{State, is_live, levels_at, after, reply, opening};
+ghost use Rattle.store_core.specs.Within.{AreLegal, IsWithinLimits, AreLegalOps, AreLegalReplies};
+ghost use Rattle.obj_kinds.specs.Limits.{is_legal_reply};
 ghost use Rattle.store_core.specs.History.{IsLegal, IsLegalWithin, state_after, entry_of};
 ghost use Rattle.store_core.specs.Ledger.{Ledger, state_of, next_entry, end_entry, IsSound, ran, AreAccepted, after_all, entries_of};
 ghost use Rattle.store_core.specs.Live.{ends, live_count};
@@ -67,4 +69,13 @@ pub fn runs_keep_stores_sound()
     ensures sound { (l : Ledger) (asked : List (Pid × Op)) → IsSound l → AreAccepted l asked → IsSound (ran l asked) }
     ensures ends { (l : Ledger) (p : Pid) → next_entry l p End ≡ end_entry p }
     ensures beginnings { (v : ℕ) (s : State) (es fs : List Entry) → IsLegalWithin v s (es ++ fs) → IsLegalWithin v s es }
+{}
+
+/// A law of legal histories whose opening nodes and operations are within the limits of nodes,
+/// values and numbers: each state after such a history is within them, its globals, holds and
+/// levels, and so is each of its replies, and the next one.
+pub fn histories_stay_within_limits()
+    ensures states { (pids : ℕ) (g : Globals) (es : List Entry) → AreLegal g → AreLegalOps es → IsWithinLimits (state_after (opening pids g) es) }
+    ensures replies { (pids : ℕ) (g : Globals) (es : List Entry) → AreLegal g → AreLegalOps es → IsLegal (opening pids g) es → AreLegalReplies es }
+    ensures next { (pids : ℕ) (g : Globals) (es : List Entry) (p : Pid) (op : Op) → AreLegal g → AreLegalOps es → is_legal_reply (reply (state_after (opening pids g) es) p op) ≡ true }
 {}

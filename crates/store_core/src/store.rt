@@ -8,6 +8,9 @@ ghost use Rattle.store_core.specs.declared.refusal.ApplyError.TheVariants.{Volum
 ghost use Rattle.store_core.specs.Machine.{is_live as lives, reply as answer_to};
 ghost use Rattle.store_core.specs.Ledger.{opened, state_of, next_entry, end_entry, with_entry, volume_with, IsSound};
 ghost use Rattle.store_core.specs.Volume.{volume};
+ghost use Rattle.std.specs.List.{list_all};
+ghost use Rattle.obj_kinds.specs.Limits.{is_legal_op, is_legal_reply};
+ghost use Rattle.store_core.specs.Within.{is_legal_pair, AreLegalOps, AreLegalReplies};
 
 use crate::entry::Entry;
 use crate::history::History;
@@ -54,10 +57,11 @@ impl Model for Store {
 
 impl Store {
     /// The store with these nodes and the live processes 1 to `pids`, of which there may be 64. Its
-    /// history may take so much of volume. Memory for the end of each process is taken here.
+    /// history may take so much of volume. The nodes and their values are within the limits. Memory for the end of each process is taken here.
     pub fn new(alloc: Global, pids: u32, nodes: Nodes, volume: u64) -> Result<Store, NoMemory>
         requires pids { (1 ≤ pids) × (pids ≤ 64) }
         requires rising { IsTrue (is_sorted node_cmp nodes) }
+        requires limits { list_all is_legal_pair nodes ≡ true }
         ensures { IfOk result (λ store. store ≡ record { nodes = nodes; pids = pids; limit = volume; history = [] }) }
     {
         let tree = tree_of(alloc, nodes.as_slice())?;
@@ -76,10 +80,13 @@ impl Store {
 
     /// Carries an operation of a live process out and enters it with its reply into the history.
     /// `Volume` comes only where the entry would pass the volume, and success only where it
-    /// doesn't. A refusal changes nothing. A process ends by [`Store::apply_end`] alone.
+    /// doesn't. A refusal changes nothing. The operation is within the limits of nodes and values, and
+    /// so is the reply. A process ends by [`Store::apply_end`] alone.
     pub fn apply(&mut self, pid: Pid, op: Op) -> Result<Reply, ApplyError>
         requires live { lives (state_of self.old) pid ≡ true }
         requires no_end { op ≢ End }
+        requires limits { is_legal_op op ≡ true }
+        ensures limits { IfOk result (λ r. is_legal_reply r ≡ true) }
         ensures reply { IfOk result (λ r. r ≡ answer_to (state_of self.old) pid op) }
         ensures entry { OnOk result (self.new ≡ with_entry self.old (next_entry self.old pid op)) }
         ensures fits { OnOk result (volume_with self.old (next_entry self.old pid op) ≤ self.old.limit) }
@@ -137,6 +144,7 @@ impl Store {
     pub fn history(&self) -> &History
         ensures entries { result.now.items ≡ self.now.history }
         ensures sound { IsSound self.now }
+        ensures limits { AreLegalOps self.now.history × AreLegalReplies self.now.history }
     {
         &self.told
     }

@@ -1,11 +1,11 @@
 ghost use Rattle.std.specs.Prelude.{◌≢◌, ◌≤◌, IfOk};
 ghost use Rattle.obj_kinds.specs.declared.op.Op.TheVariants.{End};
 
+use crate::failure::Failure;
 use itoa::Buffer;
 use obj_kinds::{Keep, Mode, Node, Op, Owner, Pid, Reply, Sub, Text, Value};
 use sqlite_items::Items;
 use std::alloc::Global;
-use std::test::Fail;
 use store_core::Store;
 
 /// How many places the trials use.
@@ -59,7 +59,7 @@ pub enum Want {
     NoTran,
 }
 
-pub fn node(alloc: Global, letter: u8, sub: i64) -> Result<Node, Fail> {
+pub fn node(alloc: Global, letter: u8, sub: i64) -> Result<Node, Failure> {
     let mut subs = Items::new(alloc);
     if sub != 0 {
         subs.push(Sub::Num(sub))?;
@@ -68,12 +68,12 @@ pub fn node(alloc: Global, letter: u8, sub: i64) -> Result<Node, Fail> {
     Ok(Node { global, subs })
 }
 
-fn at(alloc: Global, place: u8) -> Result<Node, Fail> {
+fn at(alloc: Global, place: u8) -> Result<Node, Failure> {
     let (letter, sub) = way(place);
     node(alloc, letter, sub)
 }
 
-pub fn number(alloc: Global, number: i64) -> Result<Value, Fail> {
+pub fn number(alloc: Global, number: i64) -> Result<Value, Failure> {
     let mut buffer = Buffer::new();
     let text = Text::from_slice(alloc, buffer.format(number).as_bytes())?;
     Ok(Value::Str(text))
@@ -83,7 +83,7 @@ fn after(sub: i64) -> Option<Sub> {
     if sub == 0 { None } else { Some(Sub::Num(sub)) }
 }
 
-fn op(alloc: Global, ask: Ask) -> Result<Op, Fail>
+fn op(alloc: Global, ask: Ask) -> Result<Op, Failure>
     ensures { IfOk result (λ op. op ≢ End) }
 {
     match ask {
@@ -104,11 +104,14 @@ fn op(alloc: Global, ask: Ask) -> Result<Op, Fail>
 }
 
 /// Asks a live process's operation of the store.
-pub fn asked(store: &mut Store, alloc: Global, pid: u32, ask: Ask) -> Result<Reply, Fail> {
+pub fn asked(store: &mut Store, alloc: Global, pid: u32, ask: Ask) -> Result<Reply, Failure> {
     let op = op(alloc, ask)?;
     let pid = Pid(pid);
     if !store.is_live(pid) {
-        return Err(Fail::new("the process isn't live"));
+        return Err(Failure::Process);
+    }
+    if !op.is_legal() {
+        return Err(Failure::Limits);
     }
     Ok(store.apply(pid, op)?)
 }
@@ -123,7 +126,7 @@ pub fn ended(store: &mut Store, pid: u32) -> bool {
 }
 
 /// A store without nodes.
-pub fn empty_store(alloc: Global, pids: u32, volume: u64) -> Result<Store, Fail>
+pub fn empty_store(alloc: Global, pids: u32, volume: u64) -> Result<Store, Failure>
     requires { (1 ≤ pids) × (pids ≤ 64) }
 {
     Ok(Store::new(alloc, pids, Items::new(alloc), volume)?)

@@ -1,7 +1,7 @@
 use crate::asks::{PLACES, Want, way};
+use crate::failure::Failure;
 use obj_kinds::{Keep, Mode, Owner};
 use std::alloc::Global;
-use std::test::Fail;
 
 /// How many processes the trial has.
 pub const PROCESSES: u8 = 3;
@@ -40,7 +40,7 @@ pub struct PlainHolds {
 }
 
 impl PlainHolds {
-    pub fn new(alloc: Global) -> Result<PlainHolds, Fail> {
+    pub fn new(alloc: Global) -> Result<PlainHolds, Failure> {
         let mut counts = Vec::new(alloc);
         let mut to_end = Vec::new(alloc);
         for _ in 0..84 {

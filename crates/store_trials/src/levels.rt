@@ -1,5 +1,5 @@
+use crate::failure::Failure;
 use std::alloc::Global;
-use std::test::Fail;
 
 /// The values of all places.
 pub type Values = Vec<Option<i64>>;
@@ -24,7 +24,7 @@ fn has(level: &Level, place: u8) -> bool {
     level.iter().any(|pair| pair.0 == place)
 }
 
-fn note_in(level: &mut Level, place: u8, before: Option<i64>) -> Result<(), Fail> {
+fn note_in(level: &mut Level, place: u8, before: Option<i64>) -> Result<(), Failure> {
     if !has(level, place) {
         level.push((place, before))?;
     }
@@ -32,20 +32,20 @@ fn note_in(level: &mut Level, place: u8, before: Option<i64>) -> Result<(), Fail
 }
 
 /// Keeps the value that a place had before it was written, in the top level.
-pub fn note(levels: &mut Vec<Level>, place: u8, before: Option<i64>) -> Result<(), Fail> {
+pub fn note(levels: &mut Vec<Level>, place: u8, before: Option<i64>) -> Result<(), Failure> {
     match levels.last_mut() {
         Some(top) => note_in(top, place, before),
         None => Ok(()),
     }
 }
 
-pub fn begin(alloc: Global, levels: &mut Vec<Level>) -> Result<(), Fail> {
+pub fn begin(alloc: Global, levels: &mut Vec<Level>) -> Result<(), Failure> {
     levels.push(Vec::new(alloc))?;
     Ok(())
 }
 
 /// Ends the top level and keeps its writes; false where there is none.
-pub fn commit(levels: &mut Vec<Level>) -> Result<bool, Fail> {
+pub fn commit(levels: &mut Vec<Level>) -> Result<bool, Failure> {
     match levels.pop() {
         None => Ok(false),
         Some(top) => {

@@ -1,8 +1,8 @@
 use crate::asks::{Ask, PLACES, Want, way};
+use crate::failure::Failure;
 use crate::holds::{PROCESSES, PlainHolds, covers};
 use crate::levels::{Level, Values, begin, commit, note, set_value, undo, undo_all, value};
 use std::alloc::Global;
-use std::test::Fail;
 
 /// A store as plainly as can be: lists of values, of holds and of levels.
 #[derive(Drop)]
@@ -13,7 +13,7 @@ pub struct Plain {
     levels: Vec<Vec<Level>>,
 }
 
-fn no_levels(alloc: Global) -> Result<Vec<Vec<Level>>, Fail> {
+fn no_levels(alloc: Global) -> Result<Vec<Vec<Level>>, Failure> {
     let mut levels = Vec::new(alloc);
     for _ in 0..PROCESSES {
         levels.push(Vec::new(alloc))?;
@@ -21,7 +21,7 @@ fn no_levels(alloc: Global) -> Result<Vec<Vec<Level>>, Fail> {
     Ok(levels)
 }
 
-fn no_values(alloc: Global) -> Result<Values, Fail> {
+fn no_values(alloc: Global) -> Result<Values, Failure> {
     let mut values = Vec::new(alloc);
     for _ in 0..PLACES {
         values.push(None)?;
@@ -57,7 +57,7 @@ fn next(values: &Values, place: u8, after: i64) -> Want {
     Want::NoNext
 }
 
-fn kill(levels: &mut Vec<Level>, values: &mut Values, place: u8) -> Result<Want, Fail> {
+fn kill(levels: &mut Vec<Level>, values: &mut Values, place: u8) -> Result<Want, Failure> {
     for lower in 0..PLACES {
         let before = value(values, lower);
         if covers(place, lower) && before.is_some() {
@@ -93,7 +93,7 @@ fn turn(
     values: &mut Values,
     levels: &mut Vec<Level>,
     ask: Ask,
-) -> Result<Want, Fail> {
+) -> Result<Want, Failure> {
     match ask {
         Ask::Get(place) => Ok(found(value(values, place))),
         Ask::Defined(place) => Ok(state(values, place)),
@@ -134,7 +134,7 @@ fn locked(holds: &mut PlainHolds, process: u8, ask: Ask, open: bool) -> Option<W
 }
 
 impl Plain {
-    pub fn new(alloc: Global) -> Result<Plain, Fail> {
+    pub fn new(alloc: Global) -> Result<Plain, Failure> {
         Ok(Plain {
             alloc,
             values: no_values(alloc)?,
@@ -144,10 +144,10 @@ impl Plain {
     }
 
     /// Carries the operation out and answers what the store is to reply.
-    pub fn answer(&mut self, process: u8, ask: Ask) -> Result<Want, Fail> {
+    pub fn answer(&mut self, process: u8, ask: Ask) -> Result<Want, Failure> {
         let levels = match self.levels.get_mut(usize::from(process)) {
             Some(levels) => levels,
-            None => return Err(Fail::new("there is no such process")),
+            None => return Err(Failure::Process),
         };
         let was_open = !levels.is_empty();
         if let Some(want) = locked(&mut self.holds, process, ask, was_open) {

@@ -1,10 +1,10 @@
 ghost use Rattle.std.specs.Prelude.{◌≤◌, ◌<◌};
 
 use crate::asks::{Ask, PLACES, asked, empty_store, ended, is_wanted};
+use crate::failure::Failure;
 use crate::plain::Plain;
 use obj_kinds::{Keep, Mode, Owner};
 use std::alloc::Global;
-use std::test::Fail;
 use store_core::Store;
 
 /// Numbers that look like chance, and are the same in each run.
@@ -111,7 +111,7 @@ fn agrees(
     alloc: Global,
     process: u8,
     ask: Ask,
-) -> Result<bool, Fail> {
+) -> Result<bool, Failure> {
     let want = plain.answer(process, ask)?;
     let reply = asked(store, alloc, u32::from(process) + 1, ask)?;
     Ok(is_wanted(&reply, want))
@@ -127,7 +127,7 @@ fn turns(
     from: u32,
     to: u32,
     has_ended: bool,
-) -> Result<Option<u32>, Fail> {
+) -> Result<Option<u32>, Failure> {
     for turn in from..to {
         let process = if has_ended {
             dice.roll(2) * 2
@@ -149,7 +149,7 @@ fn end(store: &mut Store, plain: &mut Plain, process: u8) -> bool {
 }
 
 /// The first place at which the values don't agree, as the third process gets them.
-fn values(store: &mut Store, plain: &mut Plain, alloc: Global) -> Result<Option<u32>, Fail> {
+fn values(store: &mut Store, plain: &mut Plain, alloc: Global) -> Result<Option<u32>, Failure> {
     for place in 0..PLACES {
         if !agrees(store, plain, alloc, 2, Ask::Get(place))? {
             return Ok(Some(u32::from(place)));
@@ -160,7 +160,7 @@ fn values(store: &mut Store, plain: &mut Plain, alloc: Global) -> Result<Option<
 
 /// Runs three processes for 300 turns; the second one ends after 200, the first one at last. It
 /// answers the first turn that doesn't agree.
-fn replay(alloc: Global, seed: u64) -> Result<Option<u32>, Fail> {
+pub fn replay(alloc: Global, seed: u64) -> Result<Option<u32>, Failure> {
     let mut store = empty_store(alloc, 3, 1_000_000)?;
     let mut plain = Plain::new(alloc)?;
     let mut dice = Dice { state: seed };
@@ -179,12 +179,4 @@ fn replay(alloc: Global, seed: u64) -> Result<Option<u32>, Fail> {
         return Ok(Some(300));
     }
     values(&mut store, &mut plain, alloc)
-}
-
-#[test]
-fn three_processes(rt: HostRuntime) -> Result<(), Fail> {
-    for seed in 1..21 {
-        assert_eq!(rt; replay(rt.alloc(), seed)?, None, "seed {seed}");
-    }
-    Ok(())
 }

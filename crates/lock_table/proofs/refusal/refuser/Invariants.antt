@@ -1,8 +1,7 @@
-use Rattle.obj_kinds.specs.declared.op.Owner.{Owner}
-use Rattle.lock_table.specs.Holds.{hold}
-use Rattle.lock_table.specs.Scan.{NoneBefore}
+use Rattle.std.proofs.Common.{◌≡◌, take}
+use Rattle.lock_table.specs.Against.{NoneBefore}
 use Rattle.lock_table.proofs.refusal.refuser.Given as goal
 
--- no hold before the next ancestor is in conflict
-abbrev pub invariant-loop-len : goal.invariant-loop-len
-invariant-loop-len l = (o : Owner) → NoneBefore l.len (hold l.pid l.node l.mode o) l.rows
+-- the way is the next ancestor, and no hold before it stops the lock
+abbrev pub invariant-loop-sub : goal.invariant-loop-sub
+invariant-loop-sub l = (l.way.global ≡ l.node.global) × (l.way.subs ≡ take l.sub-index l.node.subs) × NoneBefore l.sub-index l.rows l.pid l.mode l.node

@@ -1,20 +1,31 @@
-use Rattle.std.proofs.Common.{◌≡◌, true, false, take, drop, subst, ◌∙◌, ap}
-use Rattle.std.specs.List.{All}
-use Rattle.obj_kinds.specs.Order.{covers}
-use Rattle.lock_table.specs.Holds.{hold}
-use Rattle.lock_table.specs.Conflict.{excludes}
-use Rattle.lock_table.specs.Scan.{first_while, ancestor, stands_before}
-use Rattle.lock_table.proofs.ScanLaws.{all_under}
+use Rattle.std.proofs.Common.{sym, subst, ◌∙◌}
+use Rattle.std.specs.Map.Iter.{deref_pair}
+use Rattle.std.proofs.lemmas.Map.Iter.{rest_more}
+use Rattle.lock_table.proofs.AgainstLaws.{IsLeft, left_first, run_ends, run_stops, run_goes_on}
 use Rattle.lock_table.proofs.refusal.refuser_under.Goals as goal
 
-pub returns : goal.returns
-returns c o clear =
-    let n = c.args.node.now in
-    let h = hold c.args.pid n c.args.mode o in
-    let facts = c.first_from.ensures in
-    let scanned = c.first_under.ensures ∙ ap (first_while (λ x. covers n x.node) (excludes c.args.pid c.args.mode)) c.split_at.ensures.back in
-    let rows = c.args.rows.now in
-    let at = c.first_from.result in
-    let before = subst (λ k. All (λ e. stands_before (ancestor k n) e ≡ true) (take at rows)) c.len.ensures facts.before in
-    let from = subst (λ k. All (λ e. stands_before (ancestor k n) e ≡ false) (drop at rows)) c.len.ensures facts.from in
-    scanned ∙ all_under h rows at c.requires before from clear
+pub loop-place-init : goal.loop-place-init
+loop-place-init c =
+    subst (IsLeft c.args.rows.now c.args.pid c.args.mode c.args.node.now) (sym c.into_iter-place-iterator.ensures.into_iter_gives)
+    (left_first c.args.rows.now c.args.pid c.args.mode c.args.node.now c.range-place-items.result c.requires c.range-place-items.ensures.ordered
+    (c.range-place-items.ensures.between tt) (c.range-place-items.ensures.in_range tt).0)
+
+pub returns-then-not-covers : goal.returns-then-not-covers
+returns-then-not-covers c =
+    let is = rest_more deref_pair c.loop-place.place-iterator c.next.new.self c.next.result (c.in-Some.place, c.in-Some.holders) c.in-Some.is c.next.ensures.steps in
+    let ahead = subst (IsLeft c.args.rows.now c.args.pid c.args.mode c.args.node.now) is c.loop-place.invariant in
+    run_ends c.args.rows.now c.args.pid c.args.mode c.args.node.now (c.in-Some.place.now, c.in-Some.holders.now) c.next.new.self ahead (sym c.covers.ensures ∙ c.if-not-covers.true)
+
+pub returns-in-Some-first_against : goal.returns-in-Some-first_against
+returns-in-Some-first_against c =
+    let is = rest_more deref_pair c.loop-place.place-iterator c.next.new.self c.next.result (c.in-Some.place, c.in-Some.holders) c.in-Some.is c.next.ensures.steps in
+    let ahead = subst (IsLeft c.args.rows.now c.args.pid c.args.mode c.args.node.now) is c.loop-place.invariant in
+    run_stops c.args.rows.now c.args.pid c.args.mode c.args.node.now (c.in-Some.place.now, c.in-Some.holders.now) c.next.new.self ahead c.in-Some-first_against.holder
+    (sym c.in-Some-first_against.is ∙ c.first_against.ensures.first) c.first_against.ensures.ordered (sym c.covers.ensures ∙ c.if-not-covers.false)
+
+pub loop-place-preserved : goal.loop-place-preserved
+loop-place-preserved c =
+    let is = rest_more deref_pair c.loop-place.place-iterator c.next.new.self c.next.result (c.in-Some.place, c.in-Some.holders) c.in-Some.is c.next.ensures.steps in
+    let ahead = subst (IsLeft c.args.rows.now c.args.pid c.args.mode c.args.node.now) is c.loop-place.invariant in
+    run_goes_on c.args.rows.now c.args.pid c.args.mode c.args.node.now (c.in-Some.place.now, c.in-Some.holders.now) c.next.new.self ahead
+    (sym c.in_default.is ∙ c.first_against.ensures.first) c.first_against.ensures.ordered

@@ -1,42 +1,36 @@
-use Rattle.std.proofs.Common.{◌≡◌, Option, Some, None, is_some, cond, List, map, sym, ap, ◌∙◌}
-use Rattle.std.specs.List.{find}
-use Rattle.lock_table.specs.declared.hold.Hold.{Hold}
-use Rattle.lock_table.specs.declared.hold.Kept.{Kept}
-use Rattle.lock_table.specs.Holds.{hold, granted}
-use Rattle.lock_table.specs.Conflict.{conflicts, refusing, told}
-use Rattle.lock_table.proofs.TableLaws.{refusing_row}
+use Rattle.std.proofs.Common.{sym, ap, subst, ◌∙◌, cond, is_some}
+use Rattle.lock_table.specs.Holds.{Holds, hold, granted}
+use Rattle.lock_table.specs.Holders.{hold_on}
+use Rattle.lock_table.specs.Conflict.{refusing, told}
+use Rattle.lock_table.specs.Against.{IsVerdict}
+use Rattle.lock_table.proofs.TableLaws.{refused_by, free_of}
 use Rattle.lock_table.proofs.locks.Locks.ask.Goals as goal
 
--- the first hold in conflict in a list of rows
-abbrev first_in : Hold → List (Hold × Kept) → Option Hold
-first_in h rows = find (conflicts h) (map (λ e. e.0) rows)
-
-refused : (c : goal.After-result-in-Some-1) → refusing c.args.self.now (hold c.args.pid c.args.node.now c.args.mode c.args.owner) ≡ Some c.in-Some.hold.now
-refused c =
+pub returns-in-Refused-clause-reply : goal.returns-in-Refused-clause-reply
+returns-in-Refused-clause-reply c =
     let h = hold c.args.pid c.args.node.now c.args.mode c.args.owner in
-    ap (λ m. refusing m h) (sym c.self.view_is)
-    ∙ refusing_row c.self.inside.rows.items h (Some c.in-Some.hold.now) c.self.invariant (c.in-Some.ensures c.args.owner ∙ ap (first_in h) c.as_slice.ensures.value)
+    let verdict = subst (IsVerdict c.self.inside.rows c.args.pid c.args.mode c.args.node.now) c.in-Refused.is c.in_ok-node.ensures in
+    let is = refused_by c.self.inside.rows c.self.invariant.ordered c.args.pid c.args.node.now c.args.mode c.args.owner (hold_on c.in-Refused.node c.in-Refused.holder) verdict in
+    sym (ap told (ap (λ (v : Holds). refusing v h) (sym c.self.view_is) ∙ is))
 
-free : (c : goal.In_ok-grant-in-None) → refusing c.args.self.now (hold c.args.pid c.args.node.now c.args.mode c.args.owner) ≡ None
-free c =
+pub returns-in-Refused-clause-after : goal.returns-in-Refused-clause-after
+returns-in-Refused-clause-after c =
     let h = hold c.args.pid c.args.node.now c.args.mode c.args.owner in
-    ap (λ m. refusing m h) (sym c.self.view_is)
-    ∙ refusing_row c.self.inside.rows.items h None c.self.invariant (c.in-None.ensures c.args.owner ∙ ap (first_in h) c.as_slice.ensures.value)
+    let verdict = subst (IsVerdict c.self.inside.rows c.args.pid c.args.mode c.args.node.now) c.in-Refused.is c.in_ok-node.ensures in
+    let is = refused_by c.self.inside.rows c.self.invariant.ordered c.args.pid c.args.node.now c.args.mode c.args.owner (hold_on c.in-Refused.node c.in-Refused.holder) verdict in
+    sym (ap (λ o. cond (is_some o) c.args.self.now (granted c.args.self.now h c.args.keep)) (ap (λ (v : Holds). refusing v h) (sym c.self.view_is) ∙ is))
 
-pub returns-in_ok-copy-in-Some-clause-reply : goal.returns-in_ok-copy-in-Some-clause-reply
-returns-in_ok-copy-in-Some-clause-reply c =
-    let x = c.in-Some.hold.now in
-    ap (λ n. told (Some (hold x.pid n x.mode x.owner))) c.in_ok-copy-in-Some.ensures ∙ sym (ap told (refused c))
-
-pub returns-in_ok-copy-in-Some-clause-after : goal.returns-in_ok-copy-in-Some-clause-after
-returns-in_ok-copy-in-Some-clause-after c =
+pub returns-in_ok-grant-in-Free-clause-reply : goal.returns-in_ok-grant-in-Free-clause-reply
+returns-in_ok-grant-in-Free-clause-reply c =
     let h = hold c.args.pid c.args.node.now c.args.mode c.args.owner in
-    sym (ap (λ r. cond (is_some r) c.args.self.now (granted c.args.self.now h c.args.keep)) (refused c))
+    let verdict = subst (IsVerdict c.self.inside.rows c.args.pid c.args.mode c.args.node.now) c.in-Free.is c.in_ok-node.ensures in
+    let is = free_of c.self.inside.rows c.self.invariant.ordered c.args.pid c.args.node.now c.args.mode c.args.owner verdict.0 in
+    sym (ap told (ap (λ (v : Holds). refusing v h) (sym c.self.view_is) ∙ is))
 
-pub returns-in_ok-grant-in-None-clause-reply : goal.returns-in_ok-grant-in-None-clause-reply
-returns-in_ok-grant-in-None-clause-reply c = sym (ap told (free c))
-
-pub returns-in_ok-grant-in-None-clause-after : goal.returns-in_ok-grant-in-None-clause-after
-returns-in_ok-grant-in-None-clause-after c =
+pub returns-in_ok-grant-in-Free-clause-after : goal.returns-in_ok-grant-in-Free-clause-after
+returns-in_ok-grant-in-Free-clause-after c =
     let h = hold c.args.pid c.args.node.now c.args.mode c.args.owner in
-    c.in_ok-grant-in-None.ensures.ok ∙ sym (ap (λ r. cond (is_some r) c.args.self.now (granted c.args.self.now h c.args.keep)) (free c))
+    let verdict = subst (IsVerdict c.self.inside.rows c.args.pid c.args.mode c.args.node.now) c.in-Free.is c.in_ok-node.ensures in
+    let is = free_of c.self.inside.rows c.self.invariant.ordered c.args.pid c.args.node.now c.args.mode c.args.owner verdict.0 in
+    c.in_ok-grant-in-Free.ensures.ok ∙ ap (λ n. granted c.args.self.now (hold c.args.pid n c.args.mode c.args.owner) c.args.keep) verdict.1
+    ∙ sym (ap (λ o. cond (is_some o) c.args.self.now (granted c.args.self.now h c.args.keep)) (ap (λ (v : Holds). refusing v h) (sym c.self.view_is) ∙ is))

@@ -1,48 +1,23 @@
-use Rattle.std.proofs.Common.{◌≡◌, ◌<◌, ◌-◌, ◌^◌, sym, ap, subst, ◌∙◌}
-use Rattle.std.specs.List.{insert}
-use Rattle.lock_table.specs.declared.hold.Kept.{Kept}
-use Rattle.lock_table.specs.Places.{IsHit, IsGap}
-use Rattle.lock_table.specs.Holds.{hold, hold_cmp, granted, raised, kept, unheld}
-use Rattle.lock_table.proofs.TableLaws.{gap_sorted, gap_granted, kept_hit, hit_sorted, hit_granted}
+use Rattle.std.proofs.Common.{sym, ap, ◌∙◌}
+use Rattle.lock_table.specs.Holds.{Holds, kept, raised, granted}
+use Rattle.lock_table.specs.Holders.{hold_on}
+use Rattle.lock_table.specs.Table.{holds_of}
+use Rattle.lock_table.proofs.TableLaws.{table_listed, table_new, granted_holds, same_holds, on_ok, on_err}
 use Rattle.lock_table.proofs.locks.Locks.grant.Goals as goal
 
-hit : (c : goal.After-raised-arg-1) → IsHit hold_cmp c.self.inside.rows.items (hold c.args.pid c.args.node.now c.args.mode c.args.owner) c.in-Ok.at
-hit c = rw c.as_slice.ensures.value at c.in-Ok.ensures.found
+pub invariant_of-self-2 : goal.invariant_of-self-2
+invariant_of-self-2 c =
+    let h = hold_on c.args.node c.args.holder in
+    let raise = c.raised-kept.ensures ∙ ap (raised c.args.keep) (c.kept.ensures ∙ ap (λ (v : Holds). kept v h) (sym c.self.view_is)) in
+    table_new c.keep_new.result c.self.inside.rows c.keep_new.new.rows c.list.new.listed c.args.node c.args.holder c.args.keep c.raised-kept.result (kept (holds_of c.self.inside.rows) h) raise
+    (table_listed c.self.inside.rows c.self.inside.listed c.list.new.listed c.self.invariant c.list.ensures.keeps) c.in_ok-list.ensures.ok c.keep_new.ensures.ordered c.keep_new.ensures.at c.keep_new.ensures.err
 
-pub raised-row-requires : goal.raised-row-requires
-raised-row-requires c counted =
-    let h = hold c.args.pid c.args.node.now c.args.mode c.args.owner in
-    let is = ap (λ m. kept m h) (sym c.self.view_is) ∙ kept_hit c.self.inside.rows.items h c.in-Ok.at c.index_mut-row.result.now c.self.invariant (hit c) c.index_mut-row.ensures.value in
-    subst (λ (k : Kept). k.counted < 2 ^ 64 - 1) is (c.requires counted)
+pub returns-clause-ok : goal.returns-clause-ok
+returns-clause-ok c =
+    let h = hold_on c.args.node c.args.holder in
+    let raise = c.raised-kept.ensures ∙ ap (raised c.args.keep) (c.kept.ensures ∙ ap (λ (v : Holds). kept v h) (sym c.self.view_is)) in
+    on_ok c.keep_new.result (λ at. granted_holds c.self.inside.rows c.keep_new.new.rows c.self.invariant.ordered c.keep_new.ensures.ordered c.args.node c.args.holder c.args.keep c.raised-kept.result raise at
+    ∙ ap (λ (v : Holds). granted v h c.args.keep) c.self.view_is) c.keep_new.ensures.at
 
-pub invariant_of-self : goal.invariant_of-self
-invariant_of-self c =
-    let h = hold c.args.pid c.args.node.now c.args.mode c.args.owner in
-    let hit = rw c.as_slice.ensures.value at c.in-Ok.ensures.found in
-    hit_sorted c.self.inside.rows.items h c.in-Ok.at c.index_mut-row.result.now c.self.invariant hit c.index_mut-row.ensures.value c.raised-row.result
-
-pub returns-in-Ok-clause-ok : goal.returns-in-Ok-clause-ok
-returns-in-Ok-clause-ok c =
-    let h = hold c.args.pid c.args.node.now c.args.mode c.args.owner in
-    let hit = rw c.as_slice.ensures.value at c.in-Ok.ensures.found in
-    rw c.raised-row.ensures (hit_granted c.self.inside.rows.items h c.in-Ok.at c.index_mut-row.result.now c.self.invariant hit c.index_mut-row.ensures.value c.args.keep
-    ∙ ap (λ m. granted m h c.args.keep) c.self.view_is)
-
--- the new row
-items : (c : goal.In_ok-insert-in-Err) → c.insert.new.self.items ≡ insert c.self.inside.rows.items c.in-Err.at (hold c.args.pid c.args.node.now c.args.mode c.args.owner, raised c.args.keep unheld)
-items c =
-    let value = c.raised.ensures ∙ ap (raised c.args.keep) c.unheld.ensures in
-    c.in_ok-insert-in-Err.ensures.items ∙ (λ i. insert c.self.inside.rows.items c.in-Err.at (hold c.args.pid (c.in_ok-node-in-Err.ensures i) c.args.mode c.args.owner, value i))
-
-gap : (c : goal.In_ok-insert-in-Err) → IsGap hold_cmp c.self.inside.rows.items (hold c.args.pid c.args.node.now c.args.mode c.args.owner) c.in-Err.at
-gap c = rw c.as_slice.ensures.value at c.in-Err.ensures.absent
-
-pub invariant_of-self-in-Err : goal.invariant_of-self-in-Err
-invariant_of-self-in-Err c =
-    let h = hold c.args.pid c.args.node.now c.args.mode c.args.owner in
-    rw (items c) (gap_sorted c.self.inside.rows.items h c.in-Err.at c.self.invariant (raised c.args.keep unheld) (gap c))
-
-pub returns-in_ok-insert-in-Err-clause-ok : goal.returns-in_ok-insert-in-Err-clause-ok
-returns-in_ok-insert-in-Err-clause-ok c =
-    let h = hold c.args.pid c.args.node.now c.args.mode c.args.owner in
-    rw (items c) (gap_granted c.self.inside.rows.items h c.in-Err.at c.self.invariant c.args.keep (gap c) ∙ ap (λ m. granted m h c.args.keep) c.self.view_is)
+pub returns-clause-err : goal.returns-clause-err
+returns-clause-err c = on_err c.keep_new.result (λ same. same_holds c.self.inside.rows c.keep_new.new.rows c.self.invariant.ordered c.keep_new.ensures.ordered same ∙ c.self.view_is) c.keep_new.ensures.err

@@ -1,16 +1,14 @@
-use Rattle.std.proofs.Common.{sym, ap, ◌∙◌}
-use Rattle.lock_table.specs.Holds.{hold, kept}
-use Rattle.lock_table.proofs.TableLaws.{kept_hit, kept_gap}
+use Rattle.std.proofs.Common.{sym, ap, ◌∙◌, unwrap_or}
+use Rattle.lock_table.specs.Holds.{Holds, hold, kept, unheld}
+use Rattle.lock_table.proofs.TableLaws.{kept_is}
 use Rattle.lock_table.proofs.locks.Locks.kept.Goals as goal
 
-pub returns-in-Ok : goal.returns-in-Ok
-returns-in-Ok c =
+pub returns-in-Some : goal.returns-in-Some
+returns-in-Some c =
     let h = hold c.args.pid c.args.node.now c.args.mode c.args.owner in
-    let hit = rw c.as_slice.ensures.value at c.in-Ok.ensures.found in
-    sym (ap (λ m. kept m h) (sym c.self.view_is) ∙ kept_hit c.self.inside.rows.items h c.in-Ok.at c.index.result.now c.self.invariant hit c.index.ensures)
+    sym (ap (λ (v : Holds). kept v h) (sym c.self.view_is) ∙ kept_is c.self.inside.rows c.self.invariant.ordered h c.look_up.result c.look_up.ensures ∙ ap (λ o. unwrap_or o unheld) c.in-Some.is)
 
-pub returns-in-Err : goal.returns-in-Err
-returns-in-Err c =
+pub returns-in-None : goal.returns-in-None
+returns-in-None c =
     let h = hold c.args.pid c.args.node.now c.args.mode c.args.owner in
-    let gap = rw c.as_slice.ensures.value at c.in-Err.ensures.absent in
-    c.unheld.ensures ∙ sym (ap (λ m. kept m h) (sym c.self.view_is) ∙ kept_gap c.self.inside.rows.items h c.in-Err.field-0 c.self.invariant gap)
+    c.unheld.ensures ∙ sym (ap (λ (v : Holds). kept v h) (sym c.self.view_is) ∙ kept_is c.self.inside.rows c.self.invariant.ordered h c.look_up.result c.look_up.ensures ∙ ap (λ o. unwrap_or o unheld) c.in-None.is)

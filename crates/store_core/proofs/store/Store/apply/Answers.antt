@@ -1,11 +1,12 @@
 use Rattle.std.proofs.Common.{◌≡◌, ◌∷◌, [], ◌++◌, ◌≤◌, ◌+◌, Err, length, sym, ap, ◌∙◌, arith, subst}
 use Rattle.std.specs.Vec.{vec_capacity}
 use Rattle.store_core.specs.declared.refusal.ApplyError.TheVariants.{Volume}
+use Rattle.obj_kinds.specs.Limits.{is_legal_reply}
 use Rattle.store_core.specs.Machine.{reply}
 use Rattle.store_core.specs.Stands.{IsStore}
 use Rattle.store_core.proofs.Outcomes.{err_is}
 use Rattle.store_core.proofs.LedgerLaws.{lives_with}
-use Rattle.store_core.proofs.StoreLaws.{not_end, stands, ledger, state_is, live_log, live_within, counts_low, was_live, refused, Paid, told_entry, told_step, told_is, told_fits, refused_passes}
+use Rattle.store_core.proofs.StoreLaws.{not_end, stands, ledger, state_is, live_log, live_within, counts_low, was_live, refused, Paid, told_entry, told_step, told_is, told_fits, refused_passes, answers_within}
 use Rattle.store_core.proofs.store.Store.apply.Goals as goal
 
 pub take_turn-requires-clause-pid : goal.take_turn-requires-clause-pid
@@ -53,7 +54,10 @@ invariant_of-self-2 c =
     let enough : length s.told.items + (length s.logs.items + 1) ≤ vec_capacity c.push_reserved.new.self = omega (arith, c.in_ok-answer.ensures.memory, c.push_reserved.ensures.capacity) in
     subst (λ es. IsStore s.nodes c.take_turn.new.tree c.take_turn.new.locks c.take_turn.new.logs.items es (vec_capacity c.push_reserved.new.self) a.left)
     (sym (c.push_reserved.ensures.items ∙ ap (λ es. es ++ told_entry c.args.pid c.args.op a.kept ∷ []) c.take_turn.ensures.items))
-    (told_step c.self.invariant paid c.take_turn.new.tree c.take_turn.new.locks c.take_turn.new.logs.items (vec_capacity c.push_reserved.new.self) live len (c.in_ok-answer.ensures.after now c.self.invariant.tied) c.take_turn.ensures.owed enough)
+    (told_step c.self.invariant paid c.take_turn.new.tree c.take_turn.new.locks c.take_turn.new.logs.items (vec_capacity c.push_reserved.new.self) live c.requires.limits len (c.in_ok-answer.ensures.after now c.self.invariant.tied) c.take_turn.ensures.owed enough)
+
+pub returns-clause-limits : goal.returns-clause-limits
+returns-clause-limits c = ap is_legal_reply (c.in_ok-answer.ensures.told _ c.self.invariant.tied) ∙ answers_within c.self.invariant c.args.pid c.args.op
 
 pub returns-clause-reply : goal.returns-clause-reply
 returns-clause-reply c =

@@ -11,7 +11,7 @@ invariant_of-result c =
     let places = vec_capacity c.in_ok-told.told in
     subst (λ hs. IsStore c.args.nodes c.in_ok-tree.tree hs logs c.in_ok-told.told.items places c.args.volume) (sym c.new.ensures)
     (subst (λ es. IsStore c.args.nodes c.in_ok-tree.tree _ logs es places c.args.volume) (sym c.in_ok-told.ensures.items)
-    (new_store c.args.nodes c.in_ok-tree.tree logs c.args.pids places c.args.volume c.requires.pids.0 c.requires.pids.1 c.requires.rising
+    (new_store c.args.nodes c.in_ok-tree.tree logs c.args.pids places c.args.volume c.requires.pids.0 c.requires.pids.1 c.requires.rising c.requires.limits
     (c.in_ok-tree.ensures.globals ∙ ap from_entries c.as_slice.ensures) c.in_ok-tree.ensures.pins c.in_ok-logs.ensures c.in_ok-told.ensures.capacity c.ranges.volume.fits))
 
 pub returns : goal.returns
