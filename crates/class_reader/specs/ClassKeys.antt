@@ -39,14 +39,14 @@ abbrev pub is_left_out : Rule → Bool
 is_left_out rule.LeftOut = true
 is_left_out _ = false
 
--- a value that is a name and begins with this word is left out
-abbrev pub bars_word : Rule → Bytes → Bool
-bars_word rule.Literal word = true
-bars_word rule.NotRight word = bytes_eq word (codes "right")
-bars_word rule.OnlyIndex word = not (bytes_eq word (codes "index"))
-bars_word rule.OnlyCache word = not (bytes_eq word (codes "cache"))
-bars_word rule.OnlyCode word = not (bytes_eq word (codes "code"))
-bars_word _ word = false
+-- A value that is a name and begins with this word is left out; `lone` says that the word is the whole name.
+abbrev pub bars_word : Rule → Bool → Bytes → Bool
+bars_word rule.Literal lone word = true
+bars_word rule.NotRight lone word = lone && bytes_eq word (codes "right")
+bars_word rule.OnlyIndex lone word = not (bytes_eq word (codes "index"))
+bars_word rule.OnlyCache lone word = not (bytes_eq word (codes "cache"))
+bars_word rule.OnlyCode lone word = not (bytes_eq word (codes "code"))
+bars_word _ lone word = false
 
 -- any other value is left out: a longer name, a number, a string, a value in brackets
 abbrev pub is_only : Rule → Bool

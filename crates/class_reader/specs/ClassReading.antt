@@ -1,22 +1,21 @@
 -- What the reader of class files answers.
-use Rattle.std.specs.Prelude.{◌≡◌, ◌⊎◌, ℕ, List, Result, Ok, Err, false}
+use Rattle.std.specs.Prelude.{◌≡◌, ◌⊎◌, ℕ, List, Result, Ok, Err}
 use Rattle.schema_kinds.specs.declared.tree.ClassTree.{ClassTree}
 use Rattle.class_tokens.specs.declared.error.ClassWhy.{ClassWhy}
 use Rattle.class_reader.specs.declared.error.ReadError.{ReadError}
 use Rattle.class_reader.specs.declared.error.ReadError.TheVariants.{BadClass, NoMemory}
 use Rattle.text_reading.specs.declared.stop.Refusal.{Refusal}
 use Rattle.text_reading.specs.Tokens.{Bytes}
-use Rattle.text_reading.specs.Places.{place_of}
+use Rattle.text_reading.specs.Places.{place_of, whole_text}
 use Rattle.text_reading.specs.Grammar.{none_free, all_free, free_by}
 use Rattle.text_reading.specs.Reading.{IsRefused, whole}
 use Rattle.class_tokens.specs.ClassLex.{file_tokens}
-use Rattle.class_tokens.specs.ClassSteps.{tongue}
-use Rattle.class_reader.specs.ClassFile.{classes}
-use Rattle.class_reader.specs.FileGrammar.{Classes}
+use Rattle.class_tokens.specs.ClassTongue.{tongue}
+use Rattle.class_reader.specs.ClassGrammar.{classes, read, Classes}
 
 -- the classes of a text, or its first refusal
 abbrev pub reading : Bytes → Result (List ClassTree) (Refusal ClassWhy)
-reading text = whole tongue (classes false text) (file_tokens text)
+reading text = whole tongue (read classes (whole_text text)) (file_tokens text)
 
 -- the refusal that has this reason and stands at this line and column
 abbrev pub IsPlaced : Bytes → Refusal ClassWhy → ℕ → ℕ → ClassWhy → Type 0

@@ -1,11 +1,6 @@
 pub mod ClassNames
+pub mod ClassLiterals
 pub mod ClassKeys
-pub mod ClassValues
-pub mod ClassKeywords
-pub mod ClassProperties
-pub mod ClassMembers
-pub mod ClassFile
+pub mod ClassTrees
 pub mod ClassGrammar
-pub mod MemberGrammar
-pub mod FileGrammar
 pub mod ClassReading

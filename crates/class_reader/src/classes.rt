@@ -1,15 +1,18 @@
 //! Classes.
 
-ghost use Rattle.std.specs.Prelude.{◌≡◌, ◌∷◌, [], nat_le, false, length};
+ghost use Rattle.std.specs.Prelude.{◌≡◌, ◌∷◌, [], nat_le, false, length, IfOk};
 ghost use Rattle.text_reading.specs.Parsing.{Reads};
-ghost use Rattle.class_reader.specs.ClassFile as spec;
+ghost use Rattle.class_reader.specs.ClassGrammar as spec;
+ghost use Rattle.class_reader.specs.ClassGrammar.{read};
+ghost use Rattle.class_reader.specs.ClassTrees as trees;
 
 use crate::keys::Section;
 use crate::keywords::keywords;
+use crate::limits::barred;
 use crate::members::{index, method, parameter, storage};
 use crate::names::{class_name, own_name, package_of, whole_name};
 use crate::properties::{opens, property, relation};
-use class_tokens::{ClassStop, ClassWhy, Cursor, Kind, is_member_word};
+use class_tokens::{ClassStop, Cursor, Kind, is_member_word};
 use obj_kinds::{ClassName, Text};
 use schema_kinds::{ClassNames, ClassTree, ClassTrees, Indexes, Methods, PropTrees};
 use sqlite_items::Items;
@@ -27,24 +30,24 @@ pub struct Members {
     pub methods: Methods,
 }
 
-#[tactic(auto, unfolding(crate::specs::ClassFile::one_super))]
+#[tactic(auto, unfolding(crate::specs::ClassGrammar::one_super, text_reading::specs::Phrases::parser, text_reading::specs::Phrases::limited, text_reading::specs::Parsing::pick, text_reading::specs::Parsing::either, text_reading::specs::Parsing::sees))]
 fn one_super(alloc: Global, cursor: &mut Cursor<'_>, home: &[u8]) -> Result<ClassName, ClassStop>
-    ensures { Reads (spec.one_super false home.now cursor.old) result cursor.new }
+    ensures { Reads (read spec.one_super home.now cursor.old) result cursor.new }
 {
     let name = class_name(alloc, cursor)?;
     Ok(whole_name(alloc, home, name)?)
 }
 
-#[tactic(auto, unfolding(crate::specs::ClassFile::further_super))]
+#[tactic(auto, unfolding(crate::specs::ClassGrammar::further_super, text_reading::specs::Phrases::parser, text_reading::specs::Phrases::limited, text_reading::specs::Parsing::pick, text_reading::specs::Parsing::either, text_reading::specs::Parsing::sees))]
 fn further_super(
     alloc: Global,
     cursor: &mut Cursor<'_>,
     home: &[u8],
     mut found: ClassNames,
 ) -> Result<ClassNames, ClassStop>
-    ensures { Reads (spec.further_super false home.now found cursor.old) result cursor.new }
+    ensures { Reads (read spec.further_super (home.now, found) cursor.old) result cursor.new }
 {
-    cursor.expect(alloc, Kind::Comma)?;
+    cursor.mark(alloc, Kind::Comma)?;
     let name = one_super(alloc, cursor, home)?;
     found.push(name)?;
     Ok(found)
@@ -56,98 +59,97 @@ fn more_supers(
     home: &[u8],
     mut found: ClassNames,
 ) -> Result<ClassNames, ClassStop>
-    ensures { Reads (spec.more_supers false home.now found cursor.old) result cursor.new }
+    ensures { Reads (read spec.more_supers (home.now, found) cursor.old) result cursor.new }
 {
     'turns: while cursor.sees(Kind::Comma) {
-        found = further_super(alloc, cursor, home, found)?;
+        match further_super(alloc, cursor, home, found) {
+            Ok(more) => found = more,
+            Err(stop) => return Err(stop),
+        }
     }
     Ok(found)
 }
 
-#[tactic(auto, unfolding(crate::specs::ClassFile::listed_supers))]
-fn listed_supers(
-    alloc: Global,
-    cursor: &mut Cursor<'_>,
-    home: &[u8],
-) -> Result<ClassNames, ClassStop>
-    ensures { Reads (spec.listed_supers false home.now cursor.old) result cursor.new }
+#[tactic(auto, unfolding(crate::specs::ClassGrammar::first_super, text_reading::specs::Phrases::parser, text_reading::specs::Phrases::limited, text_reading::specs::Parsing::pick, text_reading::specs::Parsing::either, text_reading::specs::Parsing::sees))]
+fn first_super(alloc: Global, cursor: &mut Cursor<'_>, home: &[u8]) -> Result<ClassNames, ClassStop>
+    ensures { Reads (read spec.first_super home.now cursor.old) result cursor.new }
 {
-    cursor.expect(alloc, Kind::LParen)?;
-    let mut first = Items::new(alloc);
-    first.push(one_super(alloc, cursor, home)?)?;
-    let all = more_supers(alloc, cursor, home, first)?;
-    cursor.expect(alloc, Kind::RParen)?;
-    Ok(all)
-}
-
-#[tactic(auto, unfolding(crate::specs::ClassFile::supers, text_reading::specs::Parsing::either, text_reading::specs::Parsing::sees))]
-fn supers(alloc: Global, cursor: &mut Cursor<'_>, home: &[u8]) -> Result<ClassNames, ClassStop>
-    ensures { Reads (spec.supers false home.now cursor.old) result cursor.new }
-{
-    if cursor.sees(Kind::LParen) {
-        return listed_supers(alloc, cursor, home);
-    }
     let mut found = Items::new(alloc);
     found.push(one_super(alloc, cursor, home)?)?;
     Ok(found)
 }
 
-#[tactic(auto, unfolding(crate::specs::ClassFile::extends))]
-fn extends(alloc: Global, cursor: &mut Cursor<'_>, home: &[u8]) -> Result<ClassNames, ClassStop>
-    ensures { Reads (spec.extends false home.now cursor.old) result cursor.new }
+#[tactic(auto, unfolding(crate::specs::ClassGrammar::listed_supers, text_reading::specs::Phrases::parser, text_reading::specs::Phrases::limited, text_reading::specs::Parsing::pick, text_reading::specs::Parsing::either, text_reading::specs::Parsing::sees))]
+fn listed_supers(
+    alloc: Global,
+    cursor: &mut Cursor<'_>,
+    home: &[u8],
+) -> Result<ClassNames, ClassStop>
+    ensures { Reads (read spec.listed_supers home.now cursor.old) result cursor.new }
 {
-    cursor.expect(alloc, Kind::Extends)?;
-    supers(alloc, cursor, home)
+    cursor.mark(alloc, Kind::LParen)?;
+    let first = first_super(alloc, cursor, home)?;
+    let all = more_supers(alloc, cursor, home, first)?;
+    cursor.mark(alloc, Kind::RParen)?;
+    Ok(all)
+}
+
+#[tactic(auto, unfolding(crate::specs::ClassGrammar::supers, text_reading::specs::Phrases::parser, text_reading::specs::Phrases::limited, text_reading::specs::Parsing::pick, text_reading::specs::Parsing::either, text_reading::specs::Parsing::sees))]
+fn supers(alloc: Global, cursor: &mut Cursor<'_>, home: &[u8]) -> Result<ClassNames, ClassStop>
+    ensures { Reads (read spec.supers home.now cursor.old) result cursor.new }
+{
+    if cursor.sees(Kind::LParen) {
+        return listed_supers(alloc, cursor, home);
+    }
+    first_super(alloc, cursor, home)
 }
 
 /// The superclasses of a class of the package, if it has any.
-#[tactic(auto, unfolding(crate::specs::ClassFile::supers_given, text_reading::specs::Parsing::either, text_reading::specs::Parsing::sees))]
+#[tactic(auto, unfolding(crate::specs::ClassGrammar::supers_given, text_reading::specs::Phrases::parser, text_reading::specs::Phrases::limited, text_reading::specs::Parsing::pick, text_reading::specs::Parsing::either, text_reading::specs::Parsing::sees))]
 fn supers_given(
     alloc: Global,
     cursor: &mut Cursor<'_>,
     home: &[u8],
 ) -> Result<ClassNames, ClassStop>
-    ensures { Reads (spec.supers_given false home.now cursor.old) result cursor.new }
+    ensures { Reads (read spec.supers_given home.now cursor.old) result cursor.new }
 {
-    if cursor.sees(Kind::Extends) {
-        extends(alloc, cursor, home)
-    } else {
-        Ok(Items::new(alloc))
+    if !cursor.sees(Kind::Extends) {
+        return Ok(Items::new(alloc));
     }
+    cursor.mark(alloc, Kind::Extends)?;
+    supers(alloc, cursor, home)
 }
 
-/// The first word of a member that is left out.
-#[tactic(auto, unfolding(crate::specs::ClassFile::left_out, text_reading::specs::Parsing::pick, text_reading::specs::Parsing::sees))]
-fn left_out(cursor: &mut Cursor<'_>) -> Result<Text, ClassStop>
-    ensures { Reads (spec.left_out false cursor.old) result cursor.new }
+/// A member that is left out.
+#[tactic(auto, unfolding(crate::specs::ClassGrammar::left_out, text_reading::specs::Phrases::parser, text_reading::specs::Phrases::limited, text_reading::specs::Parsing::pick, text_reading::specs::Parsing::either, text_reading::specs::Parsing::sees))]
+fn left_out(alloc: Global, cursor: &mut Cursor<'_>) -> Result<(), ClassStop>
+    ensures { Reads (read spec.left_out tt cursor.old) result cursor.new }
 {
-    if cursor.sees(Kind::LeftOut) {
-        Err(cursor.stop_at(ClassWhy::LeftOut))
-    } else {
-        Err(cursor.refuse())
-    }
+    let can = cursor.sees(Kind::LeftOut);
+    cursor.pick(alloc, can, barred(true))?;
+    Ok(())
 }
 
-#[tactic(auto, unfolding(crate::specs::ClassFile::last_member, text_reading::specs::Parsing::either, text_reading::specs::Parsing::sees))]
+#[tactic(auto, unfolding(crate::specs::ClassGrammar::last_member, text_reading::specs::Phrases::parser, text_reading::specs::Phrases::limited, text_reading::specs::Parsing::pick, text_reading::specs::Parsing::either, text_reading::specs::Parsing::sees))]
 fn last_member(alloc: Global, cursor: &mut Cursor<'_>, found: Members) -> Result<Members, ClassStop>
-    ensures { Reads (spec.last_member false found cursor.old) result cursor.new }
+    ensures { Reads (read spec.last_member found cursor.old) result cursor.new }
 {
     if cursor.sees(Kind::Storage) {
         storage(alloc, cursor)?;
     } else {
-        left_out(cursor)?;
+        left_out(alloc, cursor)?;
     }
     Ok(found)
 }
 
-#[tactic(auto, unfolding(crate::specs::ClassFile::method_member, text_reading::specs::Parsing::either, text_reading::specs::Parsing::sees))]
+#[tactic(auto, unfolding(crate::specs::ClassGrammar::method_member, text_reading::specs::Phrases::parser, text_reading::specs::Phrases::limited, text_reading::specs::Parsing::pick, text_reading::specs::Parsing::either, text_reading::specs::Parsing::sees))]
 fn method_member(
     alloc: Global,
     cursor: &mut Cursor<'_>,
     marks: &mut Marks<'_>,
     found: Members,
 ) -> Result<Members, ClassStop>
-    ensures reads { Reads (spec.method_member false marks.old found cursor.old) result cursor.new }
+    ensures reads { Reads (read spec.method_member (marks.old, found) cursor.old) result cursor.new }
     ensures text { marks.new ≡ marks.old }
 {
     if cursor.sees(Kind::Method) {
@@ -179,14 +181,14 @@ fn method_member(
     last_member(alloc, cursor, found)
 }
 
-#[tactic(auto, unfolding(crate::specs::ClassFile::index_member, text_reading::specs::Parsing::either, text_reading::specs::Parsing::sees))]
+#[tactic(auto, unfolding(crate::specs::ClassGrammar::index_member, text_reading::specs::Phrases::parser, text_reading::specs::Phrases::limited, text_reading::specs::Parsing::pick, text_reading::specs::Parsing::either, text_reading::specs::Parsing::sees))]
 fn index_member(
     alloc: Global,
     cursor: &mut Cursor<'_>,
     marks: &mut Marks<'_>,
     found: Members,
 ) -> Result<Members, ClassStop>
-    ensures reads { Reads (spec.index_member false marks.old found cursor.old) result cursor.new }
+    ensures reads { Reads (read spec.index_member (marks.old, found) cursor.old) result cursor.new }
     ensures text { marks.new ≡ marks.old }
 {
     if cursor.sees(Kind::Index) {
@@ -210,7 +212,7 @@ fn index_member(
 }
 
 /// A member of a class of the package, behind those that were found.
-#[tactic(auto, unfolding(crate::specs::ClassFile::member, text_reading::specs::Parsing::either, text_reading::specs::Parsing::sees))]
+#[tactic(auto, unfolding(crate::specs::ClassGrammar::member, text_reading::specs::Phrases::parser, text_reading::specs::Phrases::limited, text_reading::specs::Parsing::pick, text_reading::specs::Parsing::either, text_reading::specs::Parsing::sees))]
 fn member(
     alloc: Global,
     cursor: &mut Cursor<'_>,
@@ -218,7 +220,7 @@ fn member(
     home: &[u8],
     found: Members,
 ) -> Result<Members, ClassStop>
-    ensures reads { Reads (spec.member false marks.old home.now found cursor.old) result cursor.new }
+    ensures reads { Reads (read spec.member (trees.site marks.old home.now, found) cursor.old) result cursor.new }
     ensures text { marks.new ≡ marks.old }
 {
     if cursor.sees(Kind::Property) {
@@ -256,7 +258,7 @@ fn all_members(
     marks: &mut Marks<'_>,
     home: &[u8],
 ) -> Result<Members, ClassStop>
-    ensures reads { Reads (spec.members false marks.old home.now cursor.old) result cursor.new }
+    ensures reads { Reads (read spec.members (trees.site marks.old home.now) cursor.old) result cursor.new }
     ensures text { marks.new ≡ marks.old }
 {
     let mut found = Members {
@@ -265,38 +267,55 @@ fn all_members(
         methods: Items::new(alloc),
     };
     'turns: while is_member_word(cursor.peek()) {
-        found = member(alloc, cursor, marks, home, found)?;
+        match member(alloc, cursor, marks, home, found) {
+            Ok(more) => found = more,
+            Err(stop) => return Err(stop),
+        }
     }
     Ok(found)
 }
 
+/// What stands behind a class's own name.
+#[tactic(auto, unfolding(crate::specs::ClassGrammar::class_rest, text_reading::specs::Phrases::parser, text_reading::specs::Phrases::limited, text_reading::specs::Parsing::pick, text_reading::specs::Parsing::either, text_reading::specs::Parsing::sees))]
+fn class_rest(
+    alloc: Global,
+    cursor: &mut Cursor<'_>,
+    marks: &mut Marks<'_>,
+    name: Text,
+) -> Result<ClassTree, ClassStop>
+    ensures reads { Reads (read spec.class_rest (marks.old, name) cursor.old) result cursor.new }
+    ensures text { marks.new ≡ marks.old }
+{
+    let home = package_of(name.as_slice());
+    let supers = supers_given(alloc, cursor, home)?;
+    keywords(alloc, cursor, Section::Class)?;
+    cursor.mark(alloc, Kind::LBrace)?;
+    let all = all_members(alloc, cursor, marks, home)?;
+    cursor.mark(alloc, Kind::RBrace)?;
+    Ok(ClassTree {
+        name: ClassName(name),
+        supers,
+        props: all.props,
+        indexes: all.indexes,
+        methods: all.methods,
+    })
+}
+
 /// A class, behind those that were found.
-#[tactic(auto, unfolding(crate::specs::ClassFile::one_class))]
+#[tactic(auto, unfolding(crate::specs::ClassGrammar::one_class, text_reading::specs::Phrases::parser, text_reading::specs::Phrases::limited, text_reading::specs::Parsing::pick, text_reading::specs::Parsing::either, text_reading::specs::Parsing::sees))]
 fn one_class(
     alloc: Global,
     cursor: &mut Cursor<'_>,
     marks: &mut Marks<'_>,
     mut found: ClassTrees,
 ) -> Result<ClassTrees, ClassStop>
-    ensures reads { Reads (spec.one_class false marks.old found cursor.old) result cursor.new }
+    ensures reads { Reads (read spec.one_class (marks.old, found) cursor.old) result cursor.new }
     ensures text { marks.new ≡ marks.old }
 {
-    let full = found.len() >= MAX_CLASSES;
-    opens(alloc, cursor, Kind::Class, full)?;
+    let filled = found.len() >= MAX_CLASSES;
+    opens(alloc, cursor, Kind::Class, filled)?;
     let name = own_name(alloc, cursor)?;
-    let home = package_of(name.as_slice());
-    let supers = supers_given(alloc, cursor, home)?;
-    keywords(alloc, cursor, Section::Class)?;
-    cursor.expect(alloc, Kind::LBrace)?;
-    let all = all_members(alloc, cursor, marks, home)?;
-    cursor.expect(alloc, Kind::RBrace)?;
-    found.push(ClassTree {
-        name: ClassName(name),
-        supers,
-        props: all.props,
-        indexes: all.indexes,
-        methods: all.methods,
-    })?;
+    found.push(class_rest(alloc, cursor, marks, name)?)?;
     Ok(found)
 }
 
@@ -306,12 +325,15 @@ pub fn classes(
     cursor: &mut Cursor<'_>,
     marks: &mut Marks<'_>,
 ) -> Result<ClassTrees, ClassStop>
-    ensures reads { Reads (spec.classes false marks.old cursor.old) result cursor.new }
+    ensures reads { Reads (read spec.classes marks.old cursor.old) result cursor.new }
     ensures text { marks.new ≡ marks.old }
 {
     let mut found = Items::new(alloc);
     'turns: while cursor.sees(Kind::Class) {
-        found = one_class(alloc, cursor, marks, found)?;
+        match one_class(alloc, cursor, marks, found) {
+            Ok(more) => found = more,
+            Err(stop) => return Err(stop),
+        }
     }
     Ok(found)
 }

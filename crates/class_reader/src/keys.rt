@@ -137,13 +137,13 @@ pub fn is_literal(rule: Rule) -> bool
     matches!(rule, Rule::Literal)
 }
 
-/// Whether a value that is a name and begins with this word is left out.
-pub fn bars_word(rule: Rule, word: &[u8]) -> bool
-    ensures { result ≡ spec.bars_word rule word.now }
+/// Whether a value that is a name and begins with this word is left out; `lone` says that the word is the whole name.
+pub fn bars_word(rule: Rule, lone: bool, word: &[u8]) -> bool
+    ensures { result ≡ spec.bars_word rule lone word.now }
 {
     match rule {
         Rule::Literal => true,
-        Rule::NotRight => word == b"right".as_slice(),
+        Rule::NotRight => lone && word == b"right".as_slice(),
         Rule::OnlyIndex => word != b"index".as_slice(),
         Rule::OnlyCache => word != b"cache".as_slice(),
         Rule::OnlyCode => word != b"code".as_slice(),

@@ -5,6 +5,7 @@ mod classes;
 mod error;
 mod keys;
 mod keywords;
+mod limits;
 mod members;
 mod names;
 mod properties;
@@ -15,9 +16,5 @@ pub use class_tokens::ClassWhy;
 pub use error::ReadError;
 pub use reading::read_classes;
 
-#[cfg(test)]
-mod ends;
-#[cfg(test)]
-mod refusals;
 #[cfg(test)]
 mod tests;

@@ -1,116 +1,100 @@
 //! Names, words and names of classes.
 
-ghost use Rattle.std.specs.Prelude.{◌≡◌, ◌≤◌, false, [], length, IfOk};
+ghost use Rattle.std.specs.Prelude.{◌≡◌, ◌≤◌, length, IfOk, false};
 ghost use Rattle.text_reading.specs.Parsing.{Reads};
-ghost use Rattle.class_reader.specs.ClassNames as spec;
-ghost use Rattle.class_tokens.specs.ClassSteps.{many};
+ghost use Rattle.class_reader.specs.ClassGrammar as spec;
+ghost use Rattle.class_reader.specs.ClassGrammar.{read};
+ghost use Rattle.class_reader.specs.ClassNames as named;
 
+use crate::limits::{MAX_CLASS_NAME, MAX_NAME, barred, longer, where_holds};
 use class_tokens::{ClassStop, ClassWhy, Cursor, Kind, byte, is_name, is_own_word, is_word};
 use obj_kinds::{ClassName, NoMemory, Text};
 use std::alloc::Global;
 
-/// How many bytes a name may have.
-pub const MAX_NAME: usize = 31;
-/// How many bytes a class's name may have.
-pub const MAX_CLASS_NAME: usize = 60;
-
 /// A name.
-#[tactic(auto, unfolding(crate::specs::ClassNames::name, text_reading::specs::Parsing::pick))]
+#[tactic(auto, unfolding(crate::specs::ClassGrammar::name, text_reading::specs::Phrases::parser, text_reading::specs::Phrases::limited, text_reading::specs::Parsing::pick, text_reading::specs::Parsing::either, text_reading::specs::Parsing::sees))]
 pub fn name(alloc: Global, cursor: &mut Cursor<'_>) -> Result<Text, ClassStop>
-    ensures { Reads (spec.name false cursor.old) result cursor.new }
+    ensures { Reads (read spec.name tt cursor.old) result cursor.new }
 {
-    if !is_name(cursor.peek()) {
-        return Err(cursor.refuse());
-    }
-    if cursor.spelling().len() > MAX_NAME {
-        return Err(cursor.stop_at(ClassWhy::NameTooLong));
-    }
-    let spelling = cursor.take(alloc)?;
-    Ok(Text::from_slice(alloc, spelling)?)
+    let can = is_name(cursor.peek());
+    let limit = longer(MAX_NAME, cursor.spelling());
+    let name = cursor.pick(alloc, can, limit)?;
+    Ok(Text::from_slice(alloc, name)?)
+}
+
+/// The limit of a name, where `taken` says whether it names a member already.
+pub fn fresh_limit(taken: bool, name: &[u8]) -> Option<ClassWhy>
+    ensures { result ≡ spec.fresh_limit taken name.now }
+{
+    let repeated = where_holds(taken, ClassWhy::RepeatedMember, None);
+    where_holds(name.len() > MAX_NAME, ClassWhy::NameTooLong, repeated)
 }
 
 /// The first word of a class's name.
-#[tactic(auto, unfolding(crate::specs::ClassNames::class_word, text_reading::specs::Parsing::pick))]
-pub fn class_word(alloc: Global, cursor: &mut Cursor<'_>) -> Result<Text, ClassStop>
-    ensures { Reads (spec.class_word false cursor.old) result cursor.new }
+#[tactic(auto, unfolding(crate::specs::ClassGrammar::class_word, text_reading::specs::Phrases::parser, text_reading::specs::Phrases::limited, text_reading::specs::Parsing::pick, text_reading::specs::Parsing::either, text_reading::specs::Parsing::sees))]
+fn class_word(alloc: Global, cursor: &mut Cursor<'_>) -> Result<Text, ClassStop>
+    ensures { Reads (read spec.class_word tt cursor.old) result cursor.new }
 {
-    if !is_word(cursor.peek()) {
-        return Err(cursor.refuse());
-    }
-    if cursor.spelling().len() > MAX_CLASS_NAME {
-        return Err(cursor.stop_at(ClassWhy::NameTooLong));
-    }
-    let spelling = cursor.take(alloc)?;
-    Ok(Text::from_slice(alloc, spelling)?)
+    let can = is_word(cursor.peek());
+    let limit = longer(MAX_CLASS_NAME, cursor.spelling());
+    let word = cursor.pick(alloc, can, limit)?;
+    Ok(Text::from_slice(alloc, word)?)
 }
 
-/// A name, where `taken` says whether the next token's bytes name a member already.
-#[tactic(auto, unfolding(crate::specs::ClassNames::fresh_if, text_reading::specs::Parsing::pick))]
-pub fn fresh(alloc: Global, cursor: &mut Cursor<'_>, taken: bool) -> Result<Text, ClassStop>
-    ensures { Reads (spec.fresh_if false taken cursor.old) result cursor.new }
+fn dot_limit(bars: bool, found: usize) -> Option<ClassWhy>
+    ensures { result ≡ spec.dot_limit bars found }
 {
-    if !is_name(cursor.peek()) {
-        return Err(cursor.refuse());
-    }
-    if cursor.spelling().len() > MAX_NAME {
-        return Err(cursor.stop_at(ClassWhy::NameTooLong));
-    }
-    if taken {
-        return Err(cursor.stop_at(ClassWhy::RepeatedMember));
-    }
-    let spelling = cursor.take(alloc)?;
-    Ok(Text::from_slice(alloc, spelling)?)
+    where_holds(
+        found > MAX_CLASS_NAME - 2,
+        ClassWhy::NameTooLong,
+        barred(bars),
+    )
 }
 
 /// A dot of a class's name, of which these bytes were found; where dots are barred it is left out.
-#[tactic(auto, unfolding(crate::specs::ClassNames::name_dot, text_reading::specs::Parsing::pick, text_reading::specs::Parsing::sees))]
+#[tactic(auto, unfolding(crate::specs::ClassGrammar::name_dot, text_reading::specs::Phrases::parser, text_reading::specs::Phrases::limited, text_reading::specs::Parsing::pick, text_reading::specs::Parsing::either, text_reading::specs::Parsing::sees))]
 fn name_dot(
     alloc: Global,
     cursor: &mut Cursor<'_>,
-    barred: bool,
+    bars: bool,
     found: &Text,
-) -> Result<Text, ClassStop>
-    ensures { Reads (spec.name_dot false barred found.now cursor.old) result cursor.new }
+) -> Result<(), ClassStop>
+    ensures { Reads (read spec.name_dot (bars, found.now) cursor.old) result cursor.new }
 {
-    if !cursor.sees(Kind::Dot) {
-        return Err(cursor.refuse());
-    }
-    if found.len() > MAX_CLASS_NAME - 2 {
-        return Err(cursor.stop_at(ClassWhy::NameTooLong));
-    }
-    if barred {
-        return Err(cursor.stop_at(ClassWhy::LeftOut));
-    }
-    let spelling = cursor.take(alloc)?;
-    Ok(Text::from_slice(alloc, spelling)?)
+    let can = cursor.sees(Kind::Dot);
+    cursor.pick(alloc, can, dot_limit(bars, found.len()))?;
+    Ok(())
+}
+
+fn further_limit(found: usize, word: &[u8]) -> Option<ClassWhy>
+    ensures { result ≡ spec.further_limit found word.now }
+{
+    let long = found >= MAX_CLASS_NAME || word.len() >= MAX_CLASS_NAME - found;
+    where_holds(long, ClassWhy::NameTooLong, None)
 }
 
 /// A further word of a class's name, of which these bytes were found.
-#[tactic(auto, unfolding(crate::specs::ClassNames::further_word, text_reading::specs::Parsing::pick))]
+#[tactic(auto, unfolding(crate::specs::ClassGrammar::further_word, text_reading::specs::Phrases::parser, text_reading::specs::Phrases::limited, text_reading::specs::Parsing::pick, text_reading::specs::Parsing::either, text_reading::specs::Parsing::sees))]
 fn further_word(alloc: Global, cursor: &mut Cursor<'_>, found: &Text) -> Result<Text, ClassStop>
-    ensures { Reads (spec.further_word false found.now cursor.old) result cursor.new }
+    ensures { Reads (read spec.further_word found.now cursor.old) result cursor.new }
 {
-    if !is_word(cursor.peek()) {
-        return Err(cursor.refuse());
-    }
-    if found.len() >= MAX_CLASS_NAME || cursor.spelling().len() >= MAX_CLASS_NAME - found.len() {
-        return Err(cursor.stop_at(ClassWhy::NameTooLong));
-    }
-    let spelling = cursor.take(alloc)?;
-    Ok(Text::from_slice(alloc, spelling)?)
+    let can = is_word(cursor.peek());
+    let limit = further_limit(found.len(), cursor.spelling());
+    let word = cursor.pick(alloc, can, limit)?;
+    Ok(Text::from_slice(alloc, word)?)
 }
 
 /// A dot and one more word, behind these bytes of a class's name.
-#[tactic(auto, unfolding(crate::specs::ClassNames::dotted))]
+#[tactic(auto, unfolding(crate::specs::ClassGrammar::dotted, text_reading::specs::Phrases::parser, text_reading::specs::Phrases::limited, text_reading::specs::Parsing::pick, text_reading::specs::Parsing::either, text_reading::specs::Parsing::sees))]
 fn dotted(
     alloc: Global,
     cursor: &mut Cursor<'_>,
-    barred: bool,
+    bars: bool,
     mut found: Text,
 ) -> Result<Text, ClassStop>
-    ensures { Reads (spec.dotted false barred found cursor.old) result cursor.new }
+    ensures { Reads (read spec.dotted (bars, found) cursor.old) result cursor.new }
 {
-    name_dot(alloc, cursor, barred, &found)?;
+    name_dot(alloc, cursor, bars, &found)?;
     let word = further_word(alloc, cursor, &found)?;
     found.push(b'.')?;
     found.push_slice(word.as_slice())?;
@@ -121,60 +105,55 @@ fn dotted(
 pub fn name_rest(
     alloc: Global,
     cursor: &mut Cursor<'_>,
-    barred: bool,
+    bars: bool,
     mut found: Text,
 ) -> Result<Text, ClassStop>
-    ensures { Reads (spec.name_rest false barred found cursor.old) result cursor.new }
+    ensures { Reads (read spec.name_rest (bars, found) cursor.old) result cursor.new }
 {
     'turns: while cursor.sees(Kind::Dot) {
-        found = dotted(alloc, cursor, barred, found)?;
+        match dotted(alloc, cursor, bars, found) {
+            Ok(more) => found = more,
+            Err(stop) => return Err(stop),
+        }
     }
     Ok(found)
 }
 
 /// A class's name as it is written.
-#[tactic(auto, unfolding(crate::specs::ClassNames::class_name))]
+#[tactic(auto, unfolding(crate::specs::ClassGrammar::class_name, text_reading::specs::Phrases::parser, text_reading::specs::Phrases::limited, text_reading::specs::Parsing::pick, text_reading::specs::Parsing::either, text_reading::specs::Parsing::sees))]
 pub fn class_name(alloc: Global, cursor: &mut Cursor<'_>) -> Result<Text, ClassStop>
-    ensures { Reads (spec.class_name false cursor.old) result cursor.new }
+    ensures { Reads (read spec.class_name tt cursor.old) result cursor.new }
 {
     let first = class_word(alloc, cursor)?;
     name_rest(alloc, cursor, false, first)
 }
 
-/// How many bytes the first word of a class's own name may have: a dot and a byte have to fit behind it, unless it
-/// stands alone.
-fn own_most(is_bare: bool) -> usize
-    ensures { result ≡ spec.own_most is_bare }
+fn own_limit(bare: bool, word: &[u8]) -> Option<ClassWhy>
+    ensures { result ≡ spec.own_limit bare word.now }
 {
-    if is_bare {
+    let most = if bare {
         MAX_CLASS_NAME
     } else {
         MAX_CLASS_NAME - 2
-    }
+    };
+    let lacks = where_holds(bare, ClassWhy::NoPackage, None);
+    where_holds(word.len() > most, ClassWhy::NameTooLong, lacks)
 }
 
-#[tactic(auto, unfolding(crate::specs::ClassNames::own_word, text_reading::specs::Parsing::pick, text_reading::specs::Parsing::sees))]
+#[tactic(auto, unfolding(crate::specs::ClassGrammar::own_word, text_reading::specs::Phrases::parser, text_reading::specs::Phrases::limited, text_reading::specs::Parsing::pick, text_reading::specs::Parsing::either, text_reading::specs::Parsing::sees))]
 fn own_word(alloc: Global, cursor: &mut Cursor<'_>) -> Result<Text, ClassStop>
-    ensures { Reads (spec.own_word false cursor.old) result cursor.new }
+    ensures { Reads (read spec.own_word tt cursor.old) result cursor.new }
 {
-    if !is_own_word(cursor.peek()) {
-        return Err(cursor.refuse());
-    }
-    let is_bare = cursor.sees(Kind::Bare);
-    if cursor.spelling().len() > own_most(is_bare) {
-        return Err(cursor.stop_at(ClassWhy::NameTooLong));
-    }
-    if is_bare {
-        return Err(cursor.stop_at(ClassWhy::NoPackage));
-    }
-    let spelling = cursor.take(alloc)?;
-    Ok(Text::from_slice(alloc, spelling)?)
+    let can = is_own_word(cursor.peek());
+    let limit = own_limit(cursor.sees(Kind::Bare), cursor.spelling());
+    let word = cursor.pick(alloc, can, limit)?;
+    Ok(Text::from_slice(alloc, word)?)
 }
 
 /// A class's own name, which has a dot.
-#[tactic(auto, unfolding(crate::specs::ClassNames::own_name))]
+#[tactic(auto, unfolding(crate::specs::ClassGrammar::own_name, text_reading::specs::Phrases::parser, text_reading::specs::Phrases::limited, text_reading::specs::Parsing::pick, text_reading::specs::Parsing::either, text_reading::specs::Parsing::sees))]
 pub fn own_name(alloc: Global, cursor: &mut Cursor<'_>) -> Result<Text, ClassStop>
-    ensures { Reads (spec.own_name false cursor.old) result cursor.new }
+    ensures { Reads (read spec.own_name tt cursor.old) result cursor.new }
 {
     let first = own_word(alloc, cursor)?;
     let named = dotted(alloc, cursor, false, first)?;
@@ -183,7 +162,7 @@ pub fn own_name(alloc: Global, cursor: &mut Cursor<'_>) -> Result<Text, ClassSto
 
 /// How many bytes of a class's name stand before its last dot.
 fn last_dot(name: &[u8]) -> usize
-    ensures value { result ≡ spec.last_dot (length name.now) name.now }
+    ensures value { result ≡ named.last_dot (length name.now) name.now }
     ensures within { result ≤ length name.now }
 {
     let mut n = name.len();
@@ -198,19 +177,19 @@ fn last_dot(name: &[u8]) -> usize
 
 /// The package of a class: what stands before the last dot of its name.
 pub fn package_of(name: &[u8]) -> &[u8]
-    ensures { result.now ≡ spec.package_of name.now }
+    ensures { result.now ≡ named.package_of name.now }
 {
     &name[..last_dot(name)]
 }
 
 fn has_dot(name: &[u8]) -> bool
-    ensures { result ≡ spec.has_dot name.now }
+    ensures { result ≡ named.has_dot name.now }
 {
     name.iter().any(|b| *b == b'.')
 }
 
 fn is_library(name: &[u8]) -> bool
-    ensures { result ≡ spec.is_library name.now }
+    ensures { result ≡ named.is_library name.now }
 {
     name.len() >= 9 && &name[..9] == b"%Library.".as_slice()
 }
@@ -218,7 +197,7 @@ fn is_library(name: &[u8]) -> bool
 /// The whole name of the class that is written so in a class of the package `home`.
 #[tactic(auto, unfolding(crate::specs::ClassNames::whole_name))]
 pub fn whole_name(alloc: Global, home: &[u8], name: Text) -> Result<ClassName, NoMemory>
-    ensures { IfOk result (λ whole. whole.0 ≡ spec.whole_name home.now name) }
+    ensures { IfOk result (λ whole. whole.0 ≡ named.whole_name home.now name) }
 {
     let written = name.as_slice();
     if is_library(written) {

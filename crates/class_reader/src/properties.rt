@@ -2,14 +2,16 @@
 
 ghost use Rattle.std.specs.Prelude.{◌≡◌, ◌≤◌, Bool, nat_le, false, length, IfOk};
 ghost use Rattle.text_reading.specs.Parsing.{Reads};
-ghost use Rattle.class_reader.specs.ClassNames as names;
-ghost use Rattle.class_reader.specs.ClassProperties as spec;
+ghost use Rattle.class_reader.specs.ClassGrammar as spec;
+ghost use Rattle.class_reader.specs.ClassGrammar.{read};
+ghost use Rattle.class_reader.specs.ClassTrees as trees;
 
-use crate::keys::{Bounds, Given, Section, no_bounds};
+use crate::keys::{Bounds, Given, Section, bound, is_left_out_bound, no_bounds};
 use crate::keywords::keywords;
-use crate::names::{class_name, fresh, name_rest, whole_name};
-use crate::values::bounds;
-use class_tokens::{ClassStop, ClassWhy, Cursor, Kind};
+use crate::limits::{MAX_NAME, barred, full, where_holds};
+use crate::names::{class_name, fresh_limit, name_rest, whole_name};
+use crate::values::literal;
+use class_tokens::{ClassStop, ClassWhy, Cursor, Kind, is_name, is_word};
 use obj_kinds::{ClassName, NoMemory, Text};
 use schema_kinds::{Form, PropTree, PropTrees};
 use std::alloc::Global;
@@ -32,30 +34,110 @@ pub struct Typed {
     pub bounds: Bounds,
 }
 
-#[tactic(auto, unfolding(crate::specs::ClassProperties::word_of, text_reading::specs::Parsing::pick, text_reading::specs::Parsing::sees))]
-fn word_of(alloc: Global, cursor: &mut Cursor<'_>, kind: Kind) -> Result<Text, ClassStop>
-    ensures { Reads (spec.word_of false kind cursor.old) result cursor.new }
+fn bound_limit(word: &[u8]) -> Option<ClassWhy>
+    ensures { result ≡ spec.bound_limit word.now }
 {
-    if !cursor.sees(kind) {
-        return Err(cursor.refuse());
+    let bars = barred(is_left_out_bound(word));
+    where_holds(word.len() > MAX_NAME, ClassWhy::NameTooLong, bars)
+}
+
+#[tactic(auto, unfolding(crate::specs::ClassGrammar::bound_word, text_reading::specs::Phrases::parser, text_reading::specs::Phrases::limited, text_reading::specs::Parsing::pick, text_reading::specs::Parsing::either, text_reading::specs::Parsing::sees))]
+fn bound_word(alloc: Global, cursor: &mut Cursor<'_>) -> Result<Text, ClassStop>
+    ensures { Reads (read spec.bound_word tt cursor.old) result cursor.new }
+{
+    let can = is_word(cursor.peek());
+    let limit = bound_limit(cursor.spelling());
+    let word = cursor.pick(alloc, can, limit)?;
+    Ok(Text::from_slice(alloc, word)?)
+}
+
+/// A parameter of a property.
+#[tactic(auto, unfolding(crate::specs::ClassGrammar::one_bound, text_reading::specs::Phrases::parser, text_reading::specs::Phrases::limited, text_reading::specs::Parsing::pick, text_reading::specs::Parsing::either, text_reading::specs::Parsing::sees))]
+fn one_bound(alloc: Global, cursor: &mut Cursor<'_>, found: Bounds) -> Result<Bounds, ClassStop>
+    ensures { Reads (read spec.one_bound found cursor.old) result cursor.new }
+{
+    let word = bound_word(alloc, cursor)?;
+    cursor.mark(alloc, Kind::Equals)?;
+    let value = literal(alloc, cursor, false)?;
+    Ok(bound(word.as_slice(), value, found))
+}
+
+#[tactic(auto, unfolding(crate::specs::ClassGrammar::further_bound, text_reading::specs::Phrases::parser, text_reading::specs::Phrases::limited, text_reading::specs::Parsing::pick, text_reading::specs::Parsing::either, text_reading::specs::Parsing::sees))]
+fn further_bound(alloc: Global, cursor: &mut Cursor<'_>, found: Bounds) -> Result<Bounds, ClassStop>
+    ensures { Reads (read spec.further_bound found cursor.old) result cursor.new }
+{
+    cursor.mark(alloc, Kind::Comma)?;
+    one_bound(alloc, cursor, found)
+}
+
+fn more_bounds(
+    alloc: Global,
+    cursor: &mut Cursor<'_>,
+    mut found: Bounds,
+) -> Result<Bounds, ClassStop>
+    ensures { Reads (read spec.more_bounds found cursor.old) result cursor.new }
+{
+    'turns: while cursor.sees(Kind::Comma) {
+        match further_bound(alloc, cursor, found) {
+            Ok(more) => found = more,
+            Err(stop) => return Err(stop),
+        }
     }
-    let spelling = cursor.take(alloc)?;
-    Ok(Text::from_slice(alloc, spelling)?)
+    Ok(found)
+}
+
+#[tactic(auto, unfolding(crate::specs::ClassGrammar::all_bounds, text_reading::specs::Phrases::parser, text_reading::specs::Phrases::limited, text_reading::specs::Parsing::pick, text_reading::specs::Parsing::either, text_reading::specs::Parsing::sees))]
+fn all_bounds(alloc: Global, cursor: &mut Cursor<'_>) -> Result<Bounds, ClassStop>
+    ensures { Reads (read spec.all_bounds tt cursor.old) result cursor.new }
+{
+    let first = one_bound(alloc, cursor, no_bounds())?;
+    more_bounds(alloc, cursor, first)
+}
+
+/// The parameters of a property, in parentheses.
+#[tactic(auto, unfolding(crate::specs::ClassGrammar::bounds, text_reading::specs::Phrases::parser, text_reading::specs::Phrases::limited, text_reading::specs::Parsing::pick, text_reading::specs::Parsing::either, text_reading::specs::Parsing::sees))]
+fn bounds(alloc: Global, cursor: &mut Cursor<'_>) -> Result<Bounds, ClassStop>
+    ensures { Reads (read spec.bounds tt cursor.old) result cursor.new }
+{
+    cursor.mark(alloc, Kind::LParen)?;
+    let all = all_bounds(alloc, cursor)?;
+    cursor.mark(alloc, Kind::RParen)?;
+    Ok(all)
+}
+
+#[tactic(auto, unfolding(crate::specs::ClassGrammar::bounds_given, text_reading::specs::Phrases::parser, text_reading::specs::Phrases::limited, text_reading::specs::Parsing::pick, text_reading::specs::Parsing::either, text_reading::specs::Parsing::sees))]
+fn bounds_given(alloc: Global, cursor: &mut Cursor<'_>) -> Result<Bounds, ClassStop>
+    ensures { Reads (read spec.bounds_given tt cursor.old) result cursor.new }
+{
+    if cursor.sees(Kind::LParen) {
+        bounds(alloc, cursor)
+    } else {
+        Ok(no_bounds())
+    }
+}
+
+#[tactic(auto, unfolding(crate::specs::ClassGrammar::word_of, text_reading::specs::Phrases::parser, text_reading::specs::Phrases::limited, text_reading::specs::Parsing::pick, text_reading::specs::Parsing::either, text_reading::specs::Parsing::sees))]
+fn word_of(alloc: Global, cursor: &mut Cursor<'_>, kind: Kind) -> Result<Text, ClassStop>
+    ensures { Reads (read (spec.word_of kind) tt cursor.old) result cursor.new }
+{
+    let can = cursor.sees(kind);
+    let word = cursor.pick(alloc, can, None)?;
+    Ok(Text::from_slice(alloc, word)?)
 }
 
 /// A word that names a collection, where `Of` follows, or else begins a class's name.
-#[tactic(auto, unfolding(crate::specs::ClassProperties::collection, text_reading::specs::Parsing::either, text_reading::specs::Parsing::sees))]
+#[tactic(auto, unfolding(crate::specs::ClassGrammar::collection, text_reading::specs::Phrases::parser, text_reading::specs::Phrases::limited, text_reading::specs::Parsing::pick, text_reading::specs::Parsing::either, text_reading::specs::Parsing::sees))]
 fn collection(
     alloc: Global,
     cursor: &mut Cursor<'_>,
     kind: Kind,
     form: Form,
 ) -> Result<TypeName, ClassStop>
-    ensures { Reads (spec.collection false kind form cursor.old) result cursor.new }
+    ensures { Reads (read (spec.collection kind form) tt cursor.old) result cursor.new }
 {
     let word = word_of(alloc, cursor, kind)?;
     if cursor.sees(Kind::Of) {
-        cursor.expect(alloc, Kind::Of)?;
+        cursor.mark(alloc, Kind::Of)?;
         let name = class_name(alloc, cursor)?;
         return Ok(TypeName { form, name });
     }
@@ -66,9 +148,9 @@ fn collection(
     })
 }
 
-#[tactic(auto, unfolding(crate::specs::ClassProperties::formed, text_reading::specs::Parsing::either, text_reading::specs::Parsing::sees))]
+#[tactic(auto, unfolding(crate::specs::ClassGrammar::formed, text_reading::specs::Phrases::parser, text_reading::specs::Phrases::limited, text_reading::specs::Parsing::pick, text_reading::specs::Parsing::either, text_reading::specs::Parsing::sees))]
 fn formed(alloc: Global, cursor: &mut Cursor<'_>) -> Result<TypeName, ClassStop>
-    ensures { Reads (spec.formed false cursor.old) result cursor.new }
+    ensures { Reads (read spec.formed tt cursor.old) result cursor.new }
 {
     if cursor.sees(Kind::List) {
         return collection(alloc, cursor, Kind::List, Form::List);
@@ -83,35 +165,26 @@ fn formed(alloc: Global, cursor: &mut Cursor<'_>) -> Result<TypeName, ClassStop>
     })
 }
 
-#[tactic(auto, unfolding(crate::specs::ClassProperties::bounds_given, text_reading::specs::Parsing::either, text_reading::specs::Parsing::sees))]
-fn bounds_given(alloc: Global, cursor: &mut Cursor<'_>) -> Result<Bounds, ClassStop>
-    ensures { Reads (spec.bounds_given false cursor.old) result cursor.new }
+fn type_of(alloc: Global, home: &[u8], written: TypeName, bounds: Bounds) -> Result<Typed, NoMemory>
+    ensures { IfOk result (λ typed. typed ≡ trees.typed home.now written bounds) }
 {
-    if cursor.sees(Kind::LParen) {
-        bounds(alloc, cursor)
-    } else {
-        Ok(no_bounds())
-    }
-}
-
-#[tactic(auto, unfolding(crate::specs::ClassProperties::as_type))]
-fn as_type(alloc: Global, cursor: &mut Cursor<'_>, home: &[u8]) -> Result<Typed, ClassStop>
-    ensures { Reads (spec.as_type false home.now cursor.old) result cursor.new }
-{
-    cursor.expect(alloc, Kind::As)?;
-    let written = formed(alloc, cursor)?;
-    let given = bounds_given(alloc, cursor)?;
     let TypeName { form, name } = written;
     let of = whole_name(alloc, home, name)?;
-    Ok(Typed {
-        form,
-        of,
-        bounds: given,
-    })
+    Ok(Typed { form, of, bounds })
+}
+
+#[tactic(auto, unfolding(crate::specs::ClassGrammar::as_type, text_reading::specs::Phrases::parser, text_reading::specs::Phrases::limited, text_reading::specs::Parsing::pick, text_reading::specs::Parsing::either, text_reading::specs::Parsing::sees))]
+fn as_type(alloc: Global, cursor: &mut Cursor<'_>, home: &[u8]) -> Result<Typed, ClassStop>
+    ensures { Reads (read spec.as_type home.now cursor.old) result cursor.new }
+{
+    cursor.mark(alloc, Kind::As)?;
+    let written = formed(alloc, cursor)?;
+    let given = bounds_given(alloc, cursor)?;
+    Ok(type_of(alloc, home, written, given)?)
 }
 
 fn text_type(alloc: Global) -> Result<Typed, NoMemory>
-    ensures { IfOk result (λ typed. typed ≡ spec.text_type) }
+    ensures { IfOk result (λ typed. typed ≡ trees.text_type) }
 {
     Ok(Typed {
         form: Form::Single,
@@ -121,9 +194,9 @@ fn text_type(alloc: Global) -> Result<Typed, NoMemory>
 }
 
 /// The type of a property of a class of the package; one that isn't written is `%String`.
-#[tactic(auto, unfolding(crate::specs::ClassProperties::type_given, text_reading::specs::Parsing::either, text_reading::specs::Parsing::sees))]
+#[tactic(auto, unfolding(crate::specs::ClassGrammar::type_given, text_reading::specs::Phrases::parser, text_reading::specs::Phrases::limited, text_reading::specs::Parsing::pick, text_reading::specs::Parsing::either, text_reading::specs::Parsing::sees))]
 fn type_given(alloc: Global, cursor: &mut Cursor<'_>, home: &[u8]) -> Result<Typed, ClassStop>
-    ensures { Reads (spec.type_given false home.now cursor.old) result cursor.new }
+    ensures { Reads (read spec.type_given home.now cursor.old) result cursor.new }
 {
     if cursor.sees(Kind::As) {
         return as_type(alloc, cursor, home);
@@ -131,35 +204,42 @@ fn type_given(alloc: Global, cursor: &mut Cursor<'_>, home: &[u8]) -> Result<Typ
     Ok(text_type(alloc)?)
 }
 
-fn has_prop(props: &PropTrees, name: &[u8]) -> bool
-    ensures { result ≡ spec.has_prop props.now name.now }
-{
-    props.as_slice().iter().any(|p| p.name.as_slice() == name)
-}
-
-/// A member's first word, where `full` says that one more member has no room.
-#[tactic(auto, unfolding(crate::specs::ClassProperties::opens, text_reading::specs::Parsing::pick, text_reading::specs::Parsing::sees))]
+/// A member's first word, where `filled` says that one more member has no room.
+#[tactic(auto, unfolding(crate::specs::ClassGrammar::opens, text_reading::specs::Phrases::parser, text_reading::specs::Phrases::limited, text_reading::specs::Parsing::pick, text_reading::specs::Parsing::either, text_reading::specs::Parsing::sees))]
 pub fn opens(
     alloc: Global,
     cursor: &mut Cursor<'_>,
     kind: Kind,
-    full: bool,
-) -> Result<Text, ClassStop>
-    ensures { Reads (spec.opens false kind full cursor.old) result cursor.new }
+    filled: bool,
+) -> Result<(), ClassStop>
+    ensures { Reads (read (spec.opens kind) filled cursor.old) result cursor.new }
 {
-    if !cursor.sees(kind) {
-        return Err(cursor.refuse());
-    }
-    if full {
-        return Err(cursor.stop_at(ClassWhy::TooMany));
-    }
-    let spelling = cursor.take(alloc)?;
-    Ok(Text::from_slice(alloc, spelling)?)
+    let can = cursor.sees(kind);
+    cursor.pick(alloc, can, full(filled))?;
+    Ok(())
 }
 
-#[tactic(auto, unfolding(crate::specs::ClassProperties::prop_of))]
+fn has_prop(props: &PropTrees, name: &[u8]) -> bool
+    ensures { result ≡ trees.has_prop props.now name.now }
+{
+    props.as_slice().iter().any(|p| p.name.as_slice() == name)
+}
+
+/// A name of a property that isn't taken yet.
+#[tactic(auto, unfolding(crate::specs::ClassGrammar::fresh, text_reading::specs::Phrases::parser, text_reading::specs::Phrases::limited, text_reading::specs::Parsing::pick, text_reading::specs::Parsing::either, text_reading::specs::Parsing::sees))]
+fn fresh_prop(alloc: Global, cursor: &mut Cursor<'_>, props: &PropTrees) -> Result<Text, ClassStop>
+    ensures { Reads (read spec.fresh (trees.has_prop props.now) cursor.old) result cursor.new }
+{
+    let can = is_name(cursor.peek());
+    let taken = has_prop(props, cursor.spelling());
+    let limit = fresh_limit(taken, cursor.spelling());
+    let name = cursor.pick(alloc, can, limit)?;
+    Ok(Text::from_slice(alloc, name)?)
+}
+
+#[tactic(auto, unfolding(crate::specs::ClassTrees::prop_of))]
 fn prop_of(name: Text, typed: Typed, given: Given) -> PropTree
-    ensures { result ≡ spec.prop_of name typed given }
+    ensures { result ≡ trees.prop_of name typed given }
 {
     let Typed { form, of, bounds } = typed;
     let Bounds {
@@ -179,38 +259,29 @@ fn prop_of(name: Text, typed: Typed, given: Given) -> PropTree
     }
 }
 
-/// A name of a property that isn't taken yet.
-#[tactic(auto, unfolding(crate::specs::ClassNames::fresh))]
-fn fresh_prop(alloc: Global, cursor: &mut Cursor<'_>, props: &PropTrees) -> Result<Text, ClassStop>
-    ensures { Reads (names.fresh false (spec.has_prop props.now) cursor.old) result cursor.new }
-{
-    let taken = has_prop(props, cursor.spelling());
-    fresh(alloc, cursor, taken)
-}
-
 /// A property of a class of the package, behind those that were found.
-#[tactic(auto, unfolding(crate::specs::ClassProperties::property))]
+#[tactic(auto, unfolding(crate::specs::ClassGrammar::property, text_reading::specs::Phrases::parser, text_reading::specs::Phrases::limited, text_reading::specs::Parsing::pick, text_reading::specs::Parsing::either, text_reading::specs::Parsing::sees))]
 pub fn property(
     alloc: Global,
     cursor: &mut Cursor<'_>,
     home: &[u8],
     mut props: PropTrees,
 ) -> Result<PropTrees, ClassStop>
-    ensures { Reads (spec.property false home.now props cursor.old) result cursor.new }
+    ensures { Reads (read spec.property (home.now, props) cursor.old) result cursor.new }
 {
-    let full = props.len() >= MAX_PROPS;
-    opens(alloc, cursor, Kind::Property, full)?;
+    let filled = props.len() >= MAX_PROPS;
+    opens(alloc, cursor, Kind::Property, filled)?;
     let name = fresh_prop(alloc, cursor, &props)?;
     let typed = type_given(alloc, cursor, home)?;
     let given = keywords(alloc, cursor, Section::Property)?;
-    cursor.expect(alloc, Kind::Semicolon)?;
+    cursor.mark(alloc, Kind::Semicolon)?;
     props.push(prop_of(name, typed, given))?;
     Ok(props)
 }
 
-#[tactic(auto, unfolding(crate::specs::ClassProperties::relation_of))]
+#[tactic(auto, unfolding(crate::specs::ClassTrees::relation_of))]
 fn relation_of(alloc: Global, name: Text, of: ClassName, given: Given) -> PropTree
-    ensures { result ≡ spec.relation_of name of.0 given }
+    ensures { result ≡ trees.relation_of name of.0 given }
 {
     PropTree {
         name,
@@ -228,22 +299,22 @@ fn relation_of(alloc: Global, name: Text, of: ClassName, given: Given) -> PropTr
 }
 
 /// A relationship of a class of the package, behind the properties that were found.
-#[tactic(auto, unfolding(crate::specs::ClassProperties::relation))]
+#[tactic(auto, unfolding(crate::specs::ClassGrammar::relation, text_reading::specs::Phrases::parser, text_reading::specs::Phrases::limited, text_reading::specs::Parsing::pick, text_reading::specs::Parsing::either, text_reading::specs::Parsing::sees))]
 pub fn relation(
     alloc: Global,
     cursor: &mut Cursor<'_>,
     home: &[u8],
     mut props: PropTrees,
 ) -> Result<PropTrees, ClassStop>
-    ensures { Reads (spec.relation false home.now props cursor.old) result cursor.new }
+    ensures { Reads (read spec.relation (home.now, props) cursor.old) result cursor.new }
 {
-    let full = props.len() >= MAX_PROPS;
-    opens(alloc, cursor, Kind::Relationship, full)?;
+    let filled = props.len() >= MAX_PROPS;
+    opens(alloc, cursor, Kind::Relationship, filled)?;
     let name = fresh_prop(alloc, cursor, &props)?;
-    cursor.expect(alloc, Kind::As)?;
+    cursor.mark(alloc, Kind::As)?;
     let of = class_name(alloc, cursor)?;
     let given = keywords(alloc, cursor, Section::Relation)?;
-    cursor.expect(alloc, Kind::Semicolon)?;
+    cursor.mark(alloc, Kind::Semicolon)?;
     let of = whole_name(alloc, home, of)?;
     props.push(relation_of(alloc, name, of, given))?;
     Ok(props)

@@ -3,23 +3,25 @@
 ghost use Rattle.std.specs.Prelude.{◌≡◌, ◌+◌, ◌<◌, ◌^◌, false, length};
 ghost use Rattle.text_reading.specs.Reading.{Gives, whole};
 ghost use Rattle.class_tokens.specs.ClassLex.{file_tokens};
-ghost use Rattle.class_tokens.specs.ClassSteps.{tongue};
-ghost use Rattle.class_reader.specs.ClassFile as file;
+ghost use Rattle.text_reading.specs.Places.{whole_text};
+ghost use Rattle.class_tokens.specs.ClassTongue.{tongue};
+ghost use Rattle.class_reader.specs.ClassGrammar as spec;
+ghost use Rattle.class_reader.specs.ClassGrammar.{read};
 ghost use Rattle.class_reader.specs.ClassReading.{IsRead, IsClassFile};
 
 use crate::classes::classes;
 use crate::error::ReadError;
-use class_tokens::{ClassStop, Cursor};
+use class_tokens::{ClassStop, file_cursor};
 use schema_kinds::ClassTrees;
 use std::alloc::Global;
-use text_reading::{Marks, Stop, place_at};
+use text_reading::{Marks, Place, Stop, place_at};
 
 #[tactic(auto, unfolding(text_reading::specs::Reading::whole))]
 fn file_of(alloc: Global, text: &[u8]) -> Result<ClassTrees, ClassStop>
     requires { length text.now + 1 < 2 ^ 32 }
-    ensures { Gives result (whole tongue (file.classes false text.now) (file_tokens text.now)) }
+    ensures { Gives result (whole tongue (read spec.classes (whole_text text.now)) (file_tokens text.now)) }
 {
-    let mut cursor = Cursor::new(alloc, text)?;
+    let mut cursor = file_cursor(alloc, text)?;
     let mut marks = Marks::new(text);
     let found = classes(alloc, &mut cursor, &mut marks)?;
     if !cursor.is_empty() {
@@ -37,7 +39,7 @@ fn placed(alloc: Global, text: &[u8]) -> Result<ClassTrees, ReadError>
         Ok(found) => Ok(found),
         Err(Stop::Memory) => Err(ReadError::NoMemory),
         Err(Stop::Refused(refusal)) => {
-            let place = place_at(text, refusal.left);
+            let place = place_at(Place::start(), text, refusal.left);
             Err(ReadError::BadClass {
                 line: place.line,
                 column: place.column,

@@ -1,15 +1,16 @@
 //! Numbers, strings and values.
 
-ghost use Rattle.std.specs.Prelude.{◌≡◌, false, true, length, IfOk};
+ghost use Rattle.std.specs.Prelude.{◌≡◌, ◌≤◌, false, true, length, IfOk, List, ℕ};
 ghost use Rattle.text_reading.specs.Parsing.{Reads};
-ghost use Rattle.class_reader.specs.ClassValues as spec;
+ghost use Rattle.class_reader.specs.ClassGrammar as spec;
+ghost use Rattle.class_reader.specs.ClassGrammar.{read};
+ghost use Rattle.class_reader.specs.ClassLiterals as said;
 
-use crate::keys::{
-    Bounds, Rule, bars_block, bars_word, bound, is_left_out_bound, is_only, no_bounds,
-};
-use crate::names::{MAX_CLASS_NAME, MAX_NAME, name_rest};
+use crate::keys::{Rule, bars_block, bars_word, is_only};
+use crate::limits::{MAX_CLASS_NAME, barred, full, where_holds};
+use crate::names::name_rest;
 use class_tokens::{
-    ClassStop, ClassWhy, Cursor, Kind, byte, is_block, is_number, is_text, is_word,
+    ClassStop, ClassWhy, Cursor, Kind, Set, byte, is_block, is_number, is_text, is_word, past,
 };
 use obj_kinds::{NoMemory, Text};
 use std::alloc::Global;
@@ -17,10 +18,22 @@ use std::alloc::Global;
 /// How many bytes a text may have.
 const MAX_TEXT: usize = 32_767;
 
+/// The digits of a number without leading zeros.
+fn significant(digits: &[u8]) -> &[u8]
+    ensures { result.now ≡ said.significant digits.now }
+{
+    let zeros = past(Set::Zeros, digits, 0);
+    if zeros < digits.len() {
+        &digits[zeros..]
+    } else {
+        b"0".as_slice()
+    }
+}
+
 /// What a string says.
-#[tactic(auto, unfolding(crate::specs::ClassValues::content))]
+#[tactic(auto, unfolding(crate::specs::ClassLiterals::content))]
 fn content(alloc: Global, text: &[u8]) -> Result<Text, NoMemory>
-    ensures { IfOk result (λ said. said ≡ spec.content text.now) }
+    ensures { IfOk result (λ said_text. said_text ≡ said.content text.now) }
 {
     let mut said = Text::new(alloc);
     if text.is_empty() {
@@ -47,135 +60,133 @@ fn content(alloc: Global, text: &[u8]) -> Result<Text, NoMemory>
     Ok(said)
 }
 
-/// A number.
-#[tactic(auto, unfolding(crate::specs::ClassValues::number, text_reading::specs::Parsing::pick))]
-fn number(alloc: Global, cursor: &mut Cursor<'_>, barred: bool) -> Result<Text, ClassStop>
-    ensures { Reads (spec.number false barred cursor.old) result cursor.new }
+/// A number, as the digits that it has without leading zeros.
+#[tactic(auto, unfolding(crate::specs::ClassGrammar::number, text_reading::specs::Phrases::parser, text_reading::specs::Phrases::limited, text_reading::specs::Parsing::pick, text_reading::specs::Parsing::either, text_reading::specs::Parsing::sees))]
+fn number(alloc: Global, cursor: &mut Cursor<'_>, bars: bool) -> Result<Text, ClassStop>
+    ensures { Reads (read spec.number bars cursor.old) result cursor.new }
 {
-    if !is_number(cursor.peek()) {
-        return Err(cursor.refuse());
-    }
-    if let Some(stop) = cursor.cut_short() {
-        return Err(stop);
-    }
-    if barred {
-        return Err(cursor.stop_at(ClassWhy::LeftOut));
-    }
-    let spelling = cursor.take(alloc)?;
-    Ok(Text::from_slice(alloc, spelling)?)
+    let can = is_number(cursor.peek());
+    let digits = cursor.pick(alloc, can, barred(bars))?;
+    Ok(Text::from_slice(alloc, significant(digits))?)
+}
+
+/// The limit of a string, where `whole` says that it isn't cut short.
+fn string_limit(bars: bool, whole: bool, count: usize) -> Option<ClassWhy>
+    ensures { (z : List ℕ) → length (said.content z) ≡ count → result ≡ spec.string_limit bars whole z }
+{
+    where_holds(bars, ClassWhy::LeftOut, full(whole && count > MAX_TEXT))
 }
 
 /// What a string says.
-#[tactic(auto, unfolding(crate::specs::ClassValues::string, crate::specs::ClassValues::raw_string, text_reading::specs::Parsing::pick))]
-fn string(alloc: Global, cursor: &mut Cursor<'_>, barred: bool) -> Result<Text, ClassStop>
-    ensures { Reads (spec.string false barred cursor.old) result cursor.new }
+#[tactic(auto, unfolding(crate::specs::ClassGrammar::string, text_reading::specs::Phrases::parser, text_reading::specs::Phrases::limited, text_reading::specs::Parsing::pick, text_reading::specs::Parsing::either, text_reading::specs::Parsing::sees))]
+fn string(alloc: Global, cursor: &mut Cursor<'_>, bars: bool) -> Result<Text, ClassStop>
+    ensures { Reads (read spec.string bars cursor.old) result cursor.new }
 {
-    if !is_text(cursor.peek()) {
-        return Err(cursor.refuse());
-    }
-    if barred {
-        return Err(cursor.stop_at(ClassWhy::LeftOut));
-    }
-    if let Some(stop) = cursor.cut_short() {
-        return Err(stop);
-    }
+    let can = is_text(cursor.peek());
     let said = content(alloc, cursor.spelling())?;
-    if said.len() > MAX_TEXT {
-        return Err(cursor.stop_at(ClassWhy::TooMany));
-    }
-    cursor.take(alloc)?;
+    let limit = string_limit(bars, cursor.sees(Kind::Text), said.len());
+    cursor.pick(alloc, can, limit)?;
     Ok(said)
 }
 
-#[tactic(auto, unfolding(crate::specs::ClassValues::minus, text_reading::specs::Parsing::pick, text_reading::specs::Parsing::sees))]
-fn minus(alloc: Global, cursor: &mut Cursor<'_>, barred: bool) -> Result<Text, ClassStop>
-    ensures { Reads (spec.minus false barred cursor.old) result cursor.new }
+#[tactic(auto, unfolding(crate::specs::ClassGrammar::minus, text_reading::specs::Phrases::parser, text_reading::specs::Phrases::limited, text_reading::specs::Parsing::pick, text_reading::specs::Parsing::either, text_reading::specs::Parsing::sees))]
+fn minus(alloc: Global, cursor: &mut Cursor<'_>, bars: bool) -> Result<(), ClassStop>
+    ensures { Reads (read spec.minus bars cursor.old) result cursor.new }
 {
-    if !cursor.sees(Kind::Minus) {
-        return Err(cursor.refuse());
-    }
-    if barred {
-        return Err(cursor.stop_at(ClassWhy::LeftOut));
-    }
-    let spelling = cursor.take(alloc)?;
-    Ok(Text::from_slice(alloc, spelling)?)
+    let can = cursor.sees(Kind::Minus);
+    cursor.pick(alloc, can, barred(bars))?;
+    Ok(())
 }
 
-/// A number behind `-`.
-#[tactic(auto, unfolding(crate::specs::ClassValues::negative))]
-fn negative(alloc: Global, cursor: &mut Cursor<'_>, barred: bool) -> Result<Text, ClassStop>
-    ensures { Reads (spec.negative false barred cursor.old) result cursor.new }
+fn negated(alloc: Global, digits: Text) -> Result<Text, NoMemory>
+    ensures { IfOk result (λ text. text ≡ said.negated digits) }
 {
-    minus(alloc, cursor, barred)?;
-    let digits = number(alloc, cursor, false)?;
+    if digits.as_slice() == b"0".as_slice() {
+        return Ok(digits);
+    }
     let mut text = Text::new(alloc);
     text.push(b'-')?;
     text.push_slice(digits.as_slice())?;
     Ok(text)
 }
 
+/// A number behind `-`.
+#[tactic(auto, unfolding(crate::specs::ClassGrammar::negative, text_reading::specs::Phrases::parser, text_reading::specs::Phrases::limited, text_reading::specs::Parsing::pick, text_reading::specs::Parsing::either, text_reading::specs::Parsing::sees))]
+fn negative(alloc: Global, cursor: &mut Cursor<'_>, bars: bool) -> Result<Text, ClassStop>
+    ensures { Reads (read spec.negative bars cursor.old) result cursor.new }
+{
+    minus(alloc, cursor, bars)?;
+    let digits = number(alloc, cursor, false)?;
+    Ok(negated(alloc, digits)?)
+}
+
 /// A number, with or without `-`, or what a string says. Where it is barred it is left out.
-#[tactic(auto, unfolding(crate::specs::ClassValues::literal, text_reading::specs::Parsing::either))]
-pub fn literal(alloc: Global, cursor: &mut Cursor<'_>, barred: bool) -> Result<Text, ClassStop>
-    ensures { Reads (spec.literal false barred cursor.old) result cursor.new }
+#[tactic(auto, unfolding(crate::specs::ClassGrammar::literal, text_reading::specs::Phrases::parser, text_reading::specs::Phrases::limited, text_reading::specs::Parsing::pick, text_reading::specs::Parsing::either, text_reading::specs::Parsing::sees))]
+pub fn literal(alloc: Global, cursor: &mut Cursor<'_>, bars: bool) -> Result<Text, ClassStop>
+    ensures { Reads (read spec.literal bars cursor.old) result cursor.new }
 {
     let kind = cursor.peek();
     if is_number(kind) {
-        number(alloc, cursor, barred)
+        number(alloc, cursor, bars)
     } else if is_text(kind) {
-        string(alloc, cursor, barred)
+        string(alloc, cursor, bars)
     } else {
-        negative(alloc, cursor, barred)
+        negative(alloc, cursor, bars)
     }
 }
 
 /// A value in brackets, as written. Where it is barred it is left out.
-#[tactic(auto, unfolding(crate::specs::ClassValues::block, text_reading::specs::Parsing::pick))]
-pub fn block(alloc: Global, cursor: &mut Cursor<'_>, barred: bool) -> Result<Text, ClassStop>
-    ensures { Reads (spec.block false barred cursor.old) result cursor.new }
+#[tactic(auto, unfolding(crate::specs::ClassGrammar::block, text_reading::specs::Phrases::parser, text_reading::specs::Phrases::limited, text_reading::specs::Parsing::pick, text_reading::specs::Parsing::either, text_reading::specs::Parsing::sees))]
+pub fn block(alloc: Global, cursor: &mut Cursor<'_>, bars: bool) -> Result<Text, ClassStop>
+    ensures { Reads (read spec.block bars cursor.old) result cursor.new }
 {
-    if !is_block(cursor.peek()) {
-        return Err(cursor.refuse());
-    }
-    if barred {
-        return Err(cursor.stop_at(ClassWhy::LeftOut));
-    }
-    if let Some(stop) = cursor.cut_short() {
-        return Err(stop);
-    }
-    let spelling = cursor.take(alloc)?;
-    Ok(Text::from_slice(alloc, spelling)?)
+    let can = is_block(cursor.peek());
+    let text = cursor.pick(alloc, can, barred(bars))?;
+    Ok(Text::from_slice(alloc, text)?)
 }
 
-#[tactic(auto, unfolding(crate::specs::ClassValues::value_word, text_reading::specs::Parsing::pick))]
+fn value_limit(rule: Rule, lone: bool, word: &[u8]) -> Option<ClassWhy>
+    ensures { result ≡ spec.value_limit rule lone word.now }
+{
+    let bars = barred(bars_word(rule, lone, word));
+    where_holds(word.len() > MAX_CLASS_NAME, ClassWhy::NameTooLong, bars)
+}
+
+#[tactic(auto, unfolding(crate::specs::ClassGrammar::value_word, text_reading::specs::Phrases::parser, text_reading::specs::Phrases::limited, text_reading::specs::Parsing::pick, text_reading::specs::Parsing::either, text_reading::specs::Parsing::sees))]
 fn value_word(alloc: Global, cursor: &mut Cursor<'_>, rule: Rule) -> Result<Text, ClassStop>
-    ensures { Reads (spec.value_word false rule cursor.old) result cursor.new }
+    ensures { Reads (read spec.value_word rule cursor.old) result cursor.new }
 {
-    if !is_word(cursor.peek()) {
-        return Err(cursor.refuse());
-    }
-    if cursor.spelling().len() > MAX_CLASS_NAME {
-        return Err(cursor.stop_at(ClassWhy::NameTooLong));
-    }
-    if bars_word(rule, cursor.spelling()) {
-        return Err(cursor.stop_at(ClassWhy::LeftOut));
-    }
-    let spelling = cursor.take(alloc)?;
-    Ok(Text::from_slice(alloc, spelling)?)
+    let can = is_word(cursor.peek());
+    let limit = value_limit(rule, cursor.sees(Kind::Lone), cursor.spelling());
+    let word = cursor.pick(alloc, can, limit)?;
+    Ok(Text::from_slice(alloc, word)?)
 }
 
-#[tactic(auto, unfolding(crate::specs::ClassValues::named_value))]
+#[tactic(auto, unfolding(crate::specs::ClassGrammar::named_rest, text_reading::specs::Phrases::parser, text_reading::specs::Phrases::limited, text_reading::specs::Parsing::pick, text_reading::specs::Parsing::either, text_reading::specs::Parsing::sees))]
+fn named_rest(
+    alloc: Global,
+    cursor: &mut Cursor<'_>,
+    rule: Rule,
+    first: Text,
+) -> Result<Text, ClassStop>
+    ensures { Reads (read spec.named_rest (rule, first) cursor.old) result cursor.new }
+{
+    let bars = is_only(rule);
+    name_rest(alloc, cursor, bars, first)
+}
+
+#[tactic(auto, unfolding(crate::specs::ClassGrammar::named_value, text_reading::specs::Phrases::parser, text_reading::specs::Phrases::limited, text_reading::specs::Parsing::pick, text_reading::specs::Parsing::either, text_reading::specs::Parsing::sees))]
 fn named_value(alloc: Global, cursor: &mut Cursor<'_>, rule: Rule) -> Result<Text, ClassStop>
-    ensures { Reads (spec.named_value false rule cursor.old) result cursor.new }
+    ensures { Reads (read spec.named_value rule cursor.old) result cursor.new }
 {
     let first = value_word(alloc, cursor, rule)?;
-    name_rest(alloc, cursor, is_only(rule), first)
+    named_rest(alloc, cursor, rule, first)
 }
 
 /// The value of a keyword, under its rule.
-#[tactic(auto, unfolding(crate::specs::ClassValues::value, text_reading::specs::Parsing::either))]
+#[tactic(auto, unfolding(crate::specs::ClassGrammar::value, text_reading::specs::Phrases::parser, text_reading::specs::Phrases::limited, text_reading::specs::Parsing::pick, text_reading::specs::Parsing::either, text_reading::specs::Parsing::sees))]
 pub fn value(alloc: Global, cursor: &mut Cursor<'_>, rule: Rule) -> Result<Text, ClassStop>
-    ensures { Reads (spec.value false rule cursor.old) result cursor.new }
+    ensures { Reads (read spec.value rule cursor.old) result cursor.new }
 {
     let kind = cursor.peek();
     if is_word(kind) {
@@ -188,78 +199,17 @@ pub fn value(alloc: Global, cursor: &mut Cursor<'_>, rule: Rule) -> Result<Text,
 }
 
 /// The value of a keyword, if there is one.
-#[tactic(auto, unfolding(crate::specs::ClassValues::given_value, text_reading::specs::Parsing::either, text_reading::specs::Parsing::sees))]
+#[tactic(auto, unfolding(crate::specs::ClassGrammar::given_value, text_reading::specs::Phrases::parser, text_reading::specs::Phrases::limited, text_reading::specs::Parsing::pick, text_reading::specs::Parsing::either, text_reading::specs::Parsing::sees))]
 pub fn given_value(
     alloc: Global,
     cursor: &mut Cursor<'_>,
     rule: Rule,
 ) -> Result<Option<Text>, ClassStop>
-    ensures { Reads (spec.given_value false rule cursor.old) result cursor.new }
+    ensures { Reads (read spec.given_value rule cursor.old) result cursor.new }
 {
     if !cursor.sees(Kind::Equals) {
         return Ok(None);
     }
-    cursor.expect(alloc, Kind::Equals)?;
+    cursor.mark(alloc, Kind::Equals)?;
     Ok(Some(value(alloc, cursor, rule)?))
-}
-
-#[tactic(auto, unfolding(crate::specs::ClassValues::bound_word, text_reading::specs::Parsing::pick))]
-fn bound_word(alloc: Global, cursor: &mut Cursor<'_>) -> Result<Text, ClassStop>
-    ensures { Reads (spec.bound_word false cursor.old) result cursor.new }
-{
-    if !is_word(cursor.peek()) {
-        return Err(cursor.refuse());
-    }
-    if cursor.spelling().len() > MAX_NAME {
-        return Err(cursor.stop_at(ClassWhy::NameTooLong));
-    }
-    if is_left_out_bound(cursor.spelling()) {
-        return Err(cursor.stop_at(ClassWhy::LeftOut));
-    }
-    let spelling = cursor.take(alloc)?;
-    Ok(Text::from_slice(alloc, spelling)?)
-}
-
-/// A parameter of a property.
-#[tactic(auto, unfolding(crate::specs::ClassValues::one_bound))]
-fn one_bound(alloc: Global, cursor: &mut Cursor<'_>, found: Bounds) -> Result<Bounds, ClassStop>
-    ensures { Reads (spec.one_bound false found cursor.old) result cursor.new }
-{
-    let word = bound_word(alloc, cursor)?;
-    cursor.expect(alloc, Kind::Equals)?;
-    let value = literal(alloc, cursor, false)?;
-    Ok(bound(word.as_slice(), value, found))
-}
-
-#[tactic(auto, unfolding(crate::specs::ClassValues::further_bound))]
-fn further_bound(alloc: Global, cursor: &mut Cursor<'_>, found: Bounds) -> Result<Bounds, ClassStop>
-    ensures { Reads (spec.further_bound false found cursor.old) result cursor.new }
-{
-    cursor.expect(alloc, Kind::Comma)?;
-    one_bound(alloc, cursor, found)
-}
-
-fn more_bounds(
-    alloc: Global,
-    cursor: &mut Cursor<'_>,
-    mut found: Bounds,
-) -> Result<Bounds, ClassStop>
-    ensures { Reads (spec.more_bounds false found cursor.old) result cursor.new }
-{
-    'turns: while cursor.sees(Kind::Comma) {
-        found = further_bound(alloc, cursor, found)?;
-    }
-    Ok(found)
-}
-
-/// The parameters of a property, in parentheses.
-#[tactic(auto, unfolding(crate::specs::ClassValues::bounds))]
-pub fn bounds(alloc: Global, cursor: &mut Cursor<'_>) -> Result<Bounds, ClassStop>
-    ensures { Reads (spec.bounds false cursor.old) result cursor.new }
-{
-    cursor.expect(alloc, Kind::LParen)?;
-    let first = one_bound(alloc, cursor, no_bounds())?;
-    let all = more_bounds(alloc, cursor, first)?;
-    cursor.expect(alloc, Kind::RParen)?;
-    Ok(all)
 }

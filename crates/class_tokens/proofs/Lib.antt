@@ -1,3 +1,2 @@
-pub mod LexLemmas
-pub mod CursorLemmas
+pub mod AllKinds
 pub mod TokenLaws

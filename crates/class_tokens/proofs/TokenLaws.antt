@@ -20,8 +20,8 @@ use Rattle.class_tokens.specs.ClassBytes.{is_ascii, is_in, past}
 use Rattle.class_tokens.specs.ClassBlocks.{Cut, quoted_from, comment_from, depth_after, storage_from, part_after, is_code, body_from, is_closing, top, open_after, balanced_from}
 use Rattle.class_tokens.specs.ClassModes.{after, start}
 use Rattle.class_tokens.specs.ClassTokens.{is_space, IsBetween, Space, Comment, IsLongest, AreTokens, Over, Between, Token}
-use Rattle.class_tokens.proofs.LexLemmas.{tokens_goes, tokens_first}
-use Rattle.class_tokens.specs.ClassLex.{digits, same_letters, head_word, type_word, member_word, left_out_word, or_else, word_kind, is_at_own_name, kind_by, kind_of_word, word, begins_word, slash, brace_at, brace, parenthesis, is_joined, single, token, is_blank, tok, tokens, file_tokens}
+use Rattle.text_reading.proofs.LexingLaws.{tokens_none, tokens_goes, tokens_first}
+use Rattle.class_tokens.specs.ClassLex.{digits, same_letters, head_word, type_word, member_word, left_out_word, or_else, word_kind, is_at_own_name, single_word, first_word, kind_by, kind_of_word, word, begins_word, slash, brace_at, brace, parenthesis, is_joined, single, token, is_blank, tok, tokens, file_tokens}
 
 -- a cut of a token that is no blank, with at least so many bytes
 pub record IsSolid (at : ℕ) (c : Cut) : Type 0 where
@@ -118,17 +118,20 @@ word_kind_solid : (w : Bytes) → is_blank (word_kind w) ≡ false
 unfolding word_kind
 word_kind_solid w = or_solid (head_word w) _ (head_solid w) (or_solid (type_word w) _ (type_solid w) (or_solid (member_word w) _ (member_solid w) (pick_solid (left_out_word w) k.LeftOut k.Name refl refl)))
 
-other_kind_solid : (at : At) (percent : Bool) (w : Bytes) (next : ℕ) → is_blank (if is_at_own_name at && not (next == 46) then k.Bare else (if percent then k.Percent else word_kind w)) ≡ false
-other_kind_solid at percent w next = pick_solid (is_at_own_name at && not (next == 46)) k.Bare _ refl (pick_solid percent k.Percent (word_kind w) refl (word_kind_solid w))
+first_solid : (m : Mode) (percent : Bool) (w : Bytes) (next : ℕ) → is_blank (first_word m percent w next) ≡ false
+unfolding first_word single_word
+first_solid m percent w next =
+    let plain : is_blank (if percent then k.Percent else word_kind w) ≡ false = pick_solid percent k.Percent (word_kind w) refl (word_kind_solid w) in
+    pick_solid (next == 46) _ _ plain (pick_solid (is_at_own_name m.at) k.Bare _ refl (pick_solid m.equals k.Lone _ refl plain))
 
-kind_solid : (joint : Joint) (at : At) (percent : Bool) (w : Bytes) (next : ℕ) → is_blank (kind_by joint at percent w next) ≡ false
-kind_solid j.Torn at percent w next = refl
-kind_solid j.Dotted at percent w next = pick_solid percent k.Percent k.Name refl refl
-kind_solid j.Apart at percent w next = other_kind_solid at percent w next
-kind_solid j.Joined at percent w next = other_kind_solid at percent w next
+kind_solid : (joint : Joint) (m : Mode) (percent : Bool) (w : Bytes) (next : ℕ) → is_blank (kind_by joint m percent w next) ≡ false
+kind_solid j.Torn m percent w next = refl
+kind_solid j.Dotted m percent w next = pick_solid percent k.Percent k.Name refl refl
+kind_solid j.Apart m percent w next = first_solid m percent w next
+kind_solid j.Joined m percent w next = first_solid m percent w next
 
 word_solid : (m : Mode) (z : Bytes) → IsSolid 1 (word m z)
-word_solid m z = more 1 _ (past set.Word z 1) (omega arith) (kind_solid m.joint m.at _ _ _)
+word_solid m z = more 1 _ (past set.Word z 1) (omega arith) (kind_solid m.joint m _ _ _)
 
 digits_solid : (z : Bytes) → IsSolid 1 (digits z)
 digits_solid z = more 1 _ (past set.Digits z 1) (omega arith) (pick_solid _ k.LongDigits k.Digits refl refl)
@@ -288,8 +291,7 @@ longest m b z =
 -- ---- the whole text
 
 cut : (n : ℕ) (m : Mode) (z : Bytes) → length z ≤ n → AreTokens z (tokens m z)
-unfolding tokens
-cut n m [] h = Over
+cut n m [] h = subst (λ ts. AreTokens [] ts) (sym (tokens_none token after is_blank m)) Over
 cut zero m (b ∷ z) h = absurd (omega arith)
 cut (suc n) m (b ∷ z) h =
     let size = (token m (b ∷ z)).1 in
@@ -300,12 +302,12 @@ cut (suc n) m (b ∷ z) h =
     elim (bool_cases (is_blank (token m (b ∷ z)).0)) [
       | inl blank ↦
           subst (λ u. AreTokens u (tokens m (b ∷ z))) whole
-          (subst (λ ts. AreTokens (take size (b ∷ z) ++ drop size (b ∷ z)) ts) (tokens_goes m (b ∷ z) blank rises)
+          (subst (λ ts. AreTokens (take size (b ∷ z) ++ drop size (b ∷ z)) ts) (tokens_goes token after is_blank m b z blank rises)
           (Between (take size (b ∷ z)) (drop size (b ∷ z)) (tokens (after m (token m (b ∷ z)).0) (drop size (b ∷ z))) (piece_between m b z blank) rest))
       | inr solid ↦
           let some : 1 ≤ length (take size (b ∷ z)) = omega (arith, length-take size (b ∷ z)) in
           subst (λ u. AreTokens u (tokens m (b ∷ z))) whole
-          (subst (λ ts. AreTokens (take size (b ∷ z) ++ drop size (b ∷ z)) ts) (sym (tokens_first m b z solid rises))
+          (subst (λ ts. AreTokens (take size (b ∷ z) ++ drop size (b ∷ z)) ts) (sym (tokens_first token after is_blank m b z solid rises))
           (Token (tok m (b ∷ z)) (drop size (b ∷ z)) (tokens (after m (token m (b ∷ z)).0) (drop size (b ∷ z))) some (ap length (sym whole))
           (subst (λ u. IsLongest (token m (b ∷ z)).0 u (drop size (b ∷ z))) (sym whole) (longest m b z)) rest))
     ]

@@ -50,9 +50,10 @@ abbrev is_plain_name : Kind → Bool
 is_plain_name k.Name = true
 is_plain_name _ = false
 
-abbrev is_percent : Kind → Bool
-is_percent k.Percent = true
-is_percent _ = false
+abbrev is_other_word : Kind → Bool
+is_other_word k.Percent = true
+is_other_word k.Lone = true
+is_other_word _ = false
 
 abbrev is_bare : Kind → Bool
 is_bare k.Bare = true
@@ -64,7 +65,7 @@ is_name kind = is_plain_name kind || is_head_word kind || is_type_word kind || i
 
 -- a word: a name that may begin with `%`
 unfoldable pub is_word : Kind → Bool
-is_word kind = is_name kind || is_percent kind
+is_word kind = is_name kind || is_other_word kind
 
 unfoldable pub is_own_word : Kind → Bool
 is_own_word kind = is_word kind || is_bare kind

@@ -1,7 +1,9 @@
 -- Tokens: what stands at the front of a text, and the list of all that a text has.
-use Rattle.std.specs.Prelude.{ℕ, zero, suc, ◌-◌, Bool, true, false, not, ◌&&◌, ◌||◌, if◌then◌else◌, ◌==◌, nat_lt, Option, Some, None, [], ◌∷◌, take, drop, length, slice_index, codes}
-use Rattle.std.specs.Char.{is_ascii_digit, is_ascii_alphabetic, eq_ignore_ascii_case}
+use Rattle.std.specs.Prelude.{◌≡◌, refl, ℕ, ◌-◌, Bool, true, false, not, ◌&&◌, ◌||◌, if◌then◌else◌, ◌==◌, nat_lt, Option, Some, None, [], ◌∷◌, take, drop, map, slice_index, codes}
+use Rattle.std.specs.Char.{is_ascii_digit, is_ascii_alphabetic, to_ascii_lowercase}
+use Rattle.std.specs.Str.{bytes_eq}
 use Rattle.text_reading.specs.Tokens.{Bytes, Tok, Toks}
+use Rattle.text_reading.specs.Lexing as lexing
 use Rattle.class_tokens.specs.declared.token.Kind.{Kind}
 use Rattle.class_tokens.specs.declared.token.Kind.TheVariants as k
 use Rattle.class_tokens.specs.declared.chars.Set.TheVariants as set
@@ -25,9 +27,7 @@ digits z =
 
 -- the same letters, in any case
 abbrev pub same_letters : Bytes → Bytes → Bool
-same_letters [] [] = true
-same_letters (a ∷ word) (b ∷ quoted) = eq_ignore_ascii_case a b && same_letters word quoted
-same_letters _ _ = false
+same_letters word quoted = bytes_eq (map to_ascii_lowercase word) (map to_ascii_lowercase quoted)
 
 unfoldable pub head_word : Bytes → Option Kind
 head_word word =
@@ -70,14 +70,22 @@ abbrev pub is_at_own_name : At → Bool
 is_at_own_name at.OwnName = true
 is_at_own_name _ = false
 
--- A word behind a dot is part of a name, unless a blank stands between. Behind `Class` stands a name with a dot.
-abbrev pub kind_by : Joint → At → Bool → Bytes → ℕ → Kind
-kind_by j.Torn at percent word next = k.Other
-kind_by j.Dotted at percent word next = if percent then k.Percent else k.Name
-kind_by _ at percent word next = if is_at_own_name at && not (next == 46) then k.Bare else (if percent then k.Percent else word_kind word)
+-- A word where no dot follows it, and where one does. Behind `Class` and behind `=` that tells a name of several words.
+unfoldable pub single_word : Mode → Bool → Bytes → Kind
+single_word m percent word =
+    if is_at_own_name m.at then k.Bare else (if m.equals then k.Lone else (if percent then k.Percent else word_kind word))
+
+unfoldable pub first_word : Mode → Bool → Bytes → ℕ → Kind
+first_word m percent word next = if next == 46 then (if percent then k.Percent else word_kind word) else single_word m percent word
+
+-- A word behind a dot is part of a name, unless a blank stands between.
+abbrev pub kind_by : Joint → Mode → Bool → Bytes → ℕ → Kind
+kind_by j.Torn m percent word next = k.Other
+kind_by j.Dotted m percent word next = if percent then k.Percent else k.Name
+kind_by _ m percent word next = first_word m percent word next
 
 abbrev pub kind_of_word : Mode → Bool → Bytes → ℕ → Kind
-kind_of_word m percent word next = kind_by m.joint m.at percent word next
+kind_of_word m percent word next = kind_by m.joint m percent word next
 
 abbrev pub word : Mode → Bytes → Cut
 word m z = let end = past set.Word z 1 in (kind_of_word m (slice_index z 0 == 37) (take end z) (slice_index z end), end)
@@ -135,19 +143,17 @@ is_blank k.Blank = true
 is_blank _ = false
 
 abbrev pub tok : Mode → Bytes → Tok Kind
-tok m z = record { kind = (token m z).0; text = take (token m z).1 z; left = length z }
+tok m z = lexing.tok token after is_blank m z
 
--- The tokens of a text. The number counts the bytes that are left of the token before.
-abbrev pub tokens_from : ℕ → Mode → Bytes → Toks Kind
-tokens_from left m [] = []
-tokens_from (suc left) m (b ∷ z) = tokens_from left m z
-tokens_from zero m (b ∷ z) =
-    let rest = tokens_from ((token m (b ∷ z)).1 - 1) (after m (token m (b ∷ z)).0) z in
-    if is_blank (token m (b ∷ z)).0 then rest else tok m (b ∷ z) ∷ rest
-
-unfoldable pub tokens : Mode → Bytes → Toks Kind
-tokens = tokens_from 0
+-- The tokens of a text, where so much is known of what stands before it.
+abbrev pub tokens : Mode → Bytes → Toks Kind
+tokens m z = lexing.tokens token after is_blank m z
 
 -- the tokens of a class file
 abbrev pub file_tokens : Bytes → Toks Kind
-file_tokens = tokens start
+file_tokens text = tokens start text
+
+-- what a cursor of class files knows
+pub token_end : (m : Mode) → (token m []).0 ≡ k.End
+unfolding token
+token_end m = refl

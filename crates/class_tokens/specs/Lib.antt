@@ -4,5 +4,4 @@ pub mod ClassBytes
 pub mod ClassBlocks
 pub mod ClassLex
 pub mod ClassTokens
-pub mod ClassSteps
-pub mod ClassCursor
+pub mod ClassTongue

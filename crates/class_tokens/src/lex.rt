@@ -1,12 +1,12 @@
 //! Cuts the token at the front of a text.
 
-ghost use Rattle.std.specs.Prelude.{◌≡◌, ◌≢◌, ◌<◌, ◌≤◌, ◌+◌, ◌-◌, ◌^◌, length, slice_index, drop, true, false, IfOk};
+ghost use Rattle.std.specs.Prelude.{◌≡◌, ◌≢◌, ◌<◌, ◌≤◌, ◌+◌, ◌-◌, ◌^◌, length, slice_index, drop, false, IfOk};
 ghost use Rattle.class_tokens.specs.ClassLex as spec;
 ghost use Rattle.class_tokens.specs.ClassTokens.{AreTokens};
 
 use crate::blocks::{Cut, balanced, body, comment, quoted, storage};
 use crate::chars::{Set, byte, is_ascii, past};
-use crate::mode::{At, Joint, Mode, after};
+use crate::mode::{At, Joint, Mode};
 use crate::token::Kind;
 use obj_kinds::NoMemory;
 use std::alloc::Global;
@@ -33,13 +33,7 @@ fn digits(z: &[u8]) -> Cut
 fn same_letters(word: &[u8], quoted: &[u8]) -> bool
     ensures { result ≡ spec.same_letters word.now quoted.now }
 {
-    match (word.split_first(), quoted.split_first()) {
-        (None, None) => true,
-        (Some((a, word)), Some((b, quoted))) => {
-            a.eq_ignore_ascii_case(b) && same_letters(word, quoted)
-        }
-        _ => false,
-    }
+    word.eq_ignore_ascii_case(quoted)
 }
 
 #[tactic(auto, unfolding(crate::specs::ClassLex::head_word))]
@@ -136,6 +130,36 @@ fn is_at_own_name(at: At) -> bool
     matches!(at, At::OwnName)
 }
 
+/// The kind of a word where no dot follows it.
+#[tactic(auto, unfolding(crate::specs::ClassLex::single_word))]
+fn single_word(mode: Mode, percent: bool, word: &[u8]) -> Kind
+    ensures { result ≡ spec.single_word mode percent word.now }
+{
+    if is_at_own_name(mode.at) {
+        Kind::Bare
+    } else if mode.equals {
+        Kind::Lone
+    } else if percent {
+        Kind::Percent
+    } else {
+        word_kind(word)
+    }
+}
+
+/// The kind of a word that no dot stands before.
+#[tactic(auto, unfolding(crate::specs::ClassLex::first_word))]
+fn first_word(mode: Mode, percent: bool, word: &[u8], next: u8) -> Kind
+    ensures { result ≡ spec.first_word mode percent word.now next }
+{
+    if next != b'.' {
+        single_word(mode, percent, word)
+    } else if percent {
+        Kind::Percent
+    } else {
+        word_kind(word)
+    }
+}
+
 /// The kind of a word that stands at the front: `percent` says that it begins with `%`, and `next` is the byte behind it.
 fn kind_of_word(mode: Mode, percent: bool, word: &[u8], next: u8) -> Kind
     ensures { result ≡ spec.kind_of_word mode percent word.now next }
@@ -143,13 +167,7 @@ fn kind_of_word(mode: Mode, percent: bool, word: &[u8], next: u8) -> Kind
     match mode.joint {
         Joint::Torn => Kind::Other,
         Joint::Dotted => if percent { Kind::Percent } else { Kind::Name },
-        _ => if is_at_own_name(mode.at) && next != b'.' {
-            Kind::Bare
-        } else if percent {
-            Kind::Percent
-        } else {
-            word_kind(word)
-        },
+        _ => first_word(mode, percent, word, next),
     }
 }
 
@@ -277,38 +295,6 @@ pub fn is_blank(kind: Kind) -> bool
     ensures { result ≡ spec.is_blank kind }
 {
     matches!(kind, Kind::Blank)
-}
-
-/// The first token that is no blank: the text from it on, its mode, its kind and its length.
-#[derive(Drop)]
-pub struct Front<'a> {
-    pub ahead: &'a [u8],
-    pub mode: Mode,
-    pub token: Cut,
-}
-
-/// Passes over blanks and comments.
-pub fn skip(alloc: Global, mode: Mode, mut z: &[u8]) -> Result<Front<'_>, NoMemory>
-    requires { length z.now < 2 ^ 62 }
-    ensures rest { IfOk result (λ f. spec.tokens f.mode f.ahead.now ≡ spec.tokens mode z.entry.now) }
-    ensures first { IfOk result (λ f. f.token ≡ spec.token f.mode f.ahead.now) }
-    ensures solid { IfOk result (λ f. spec.is_blank f.token.0 ≡ false) }
-    ensures moves { IfOk result (λ f. 0 < length f.ahead.now → 1 ≤ f.token.1) }
-    ensures within { IfOk result (λ f. (f.token.1 ≤ length f.ahead.now) × (length f.ahead.now ≤ length z.entry.now)) }
-{
-    let mut now = mode;
-    'blanks: loop {
-        let first = token(alloc, now, z)?;
-        if !is_blank(first.0) {
-            return Ok(Front {
-                ahead: z,
-                mode: now,
-                token: first,
-            });
-        }
-        now = after(now, first.0);
-        z = &z[first.1..];
-    }
 }
 
 /// The law above the lexer: the tokens of a class file and what stands between them are the whole text, what stands

@@ -14,7 +14,7 @@ fn next_is(rt: &HostRuntime, cursor: &mut Cursor<'_>, kind: Kind, text: &[u8]) -
 fn a_brace_opens_what_the_tokens_before_say(rt: HostRuntime) {
     let text =
         b"Class A.B [ X = {}} ] { Method M() { \"}\" ; }\n} Storage S { \" { } } } // .".as_slice();
-    let Ok(mut all) = Cursor::new(rt.alloc(), text) else {
+    let Ok(mut all) = file_cursor(rt.alloc(), text) else {
         assert!(rt; false);
         return;
     };
@@ -29,7 +29,7 @@ fn a_brace_opens_what_the_tokens_before_say(rt: HostRuntime) {
 #[test]
 fn blocks(rt: HostRuntime) {
     let text = b"Class A.B { Method M() { \"}\" ; }\n} Storage S { \" { } } } // .".as_slice();
-    let Ok(mut all) = Cursor::new(rt.alloc(), text) else {
+    let Ok(mut all) = file_cursor(rt.alloc(), text) else {
         assert!(rt; false);
         return;
     };

@@ -23,6 +23,8 @@ pub enum Kind {
     Percent,
     /// The word behind `Class`, where no dot follows it.
     Bare,
+    /// A word behind `=`, where no dot follows it.
+    Lone,
     Class,
     Extends,
     Not,
@@ -75,7 +77,7 @@ pub enum Kind {
 pub fn is_word(kind: Kind) -> bool
     ensures { result ≡ spec.is_word kind }
 {
-    is_name(kind) || matches!(kind, Kind::Percent)
+    is_name(kind) || matches!(kind, Kind::Percent | Kind::Lone)
 }
 
 /// Whether it is a name: a word without `%`.

@@ -29,7 +29,7 @@ pub struct PropTree {
     pub required: bool,
     /// What a new object has; empty where nothing is given.
     pub initial: Text,
-    /// `MAXLEN` as written, without the quotes of a string; so are the other two.
+    /// The number or the text that `MAXLEN` gives, without the quotes of a string; so are the other two.
     pub max_len: Option<Text>,
     pub min_val: Option<Text>,
     pub max_val: Option<Text>,

@@ -3,8 +3,8 @@ use Rattle.std.proofs.Common.{◌≡◌, arith, Bool, true, false, not, [], ◌�
 use Rattle.text_reading.specs.declared.stop.Refusal.{Refusal}
 use Rattle.text_reading.specs.Tokens.{Tok, Toks, Tongue, head_kind}
 use Rattle.text_reading.specs.Parsing.{Parser, pick, either}
-use Rattle.text_reading.specs.Grammar.{Lang, Waiver, Picked, none_free, all_free, free_by, Or}
-use Rattle.text_reading.proofs.Theory.{Right, Accepts, Refuses, Any, always, Begins, Joins, good, ok_fst, ok_snd, bool_cases, token_of, same_head, same_heads}
+use Rattle.text_reading.specs.Grammar.{Lang, Waiver, Picked, none_free, all_free, free_by}
+use Rattle.text_reading.proofs.Theory.{Right, Accepts, Refuses, Any, always, Begins, Joins, good, ok_fst, ok_snd, bool_cases, token_of, same_head}
 
 abbrev no_limit : {A : Type 0} → Option A → Type 0
 no_limit o = o ≡ None
@@ -13,7 +13,7 @@ option_cases : {A : Type 0} (o : Option A) → (o ≡ None) ⊎ ((a : A) × (o �
 option_cases None = inl refl
 option_cases (Some a) = inr (a, refl)
 
-no_free : {A : Type 0} (o : Option A) → ((a : A) → o ≡ Some a → ⊥) → o ≡ None
+pub no_free : {A : Type 0} (o : Option A) → ((a : A) → o ≡ Some a → ⊥) → o ≡ None
 no_free None f = refl
 no_free (Some a) f = absurd (f a refl)
 
@@ -21,19 +21,19 @@ module _ {K W : Type 0} (T : Tongue K W) where
   -- ---- one token
 
   module _ (can : K → Bool) (limit : Tok K → Option (Refusal W)) (ends : can T.end ≡ false) where
-    pick_wide : (t : Tok K) (other : Toks K) → can t.kind ≡ true → pick T true can limit (t ∷ other) ≡ good t other
+    pub pick_wide : (t : Tok K) (other : Toks K) → can t.kind ≡ true → pick T true can limit (t ∷ other) ≡ good t other
     unfolding pick
     pick_wide t other h = rw h refl
 
-    pick_good : (t : Tok K) (other : Toks K) → can t.kind ≡ true → limit t ≡ None → pick T false can limit (t ∷ other) ≡ good t other
+    pub pick_good : (t : Tok K) (other : Toks K) → can t.kind ≡ true → limit t ≡ None → pick T false can limit (t ∷ other) ≡ good t other
     unfolding pick
     pick_good t other h l = rw (h, l) refl
 
-    pick_stopped : (t : Tok K) (other : Toks K) (r : Refusal W) → can t.kind ≡ true → limit t ≡ Some r → pick T false can limit (t ∷ other) ≡ Err r
+    pub pick_stopped : (t : Tok K) (other : Toks K) (r : Refusal W) → can t.kind ≡ true → limit t ≡ Some r → pick T false can limit (t ∷ other) ≡ Err r
     unfolding pick
     pick_stopped t other r h l = rw (h, l) refl
 
-    pick_gone : (wide : Bool) (ts : Toks K) → can (head_kind T ts) ≡ false → pick T wide can limit ts ≡ Err (T.refusal ts)
+    pub pick_gone : (wide : Bool) (ts : Toks K) → can (head_kind T ts) ≡ false → pick T wide can limit ts ≡ Err (T.refusal ts)
     unfolding pick
     pick_gone wide ts h = rw h refl
 
@@ -134,9 +134,6 @@ module _ {K W : Type 0} (T : Tongue K W) where
   abbrev pub gone : (K → Bool) → K → Bool
   gone goes h = not (goes h)
 
-  gone_false : (goes : K → Bool) (h : K) → gone goes h ≡ true → goes h ≡ false
-  gone_false goes h e = elim (bool_cases (goes h)) [ inl here ↦ absurd (let f = rw here at e in (cc)) | inr is ↦ is ]
-
   module _ {A : Type 0} {goes : K → Bool} {P PV Q QV : Lang K A} {PC QC : Waiver W → Lang K A} {S : K → Bool} {p pV q qV : Parser K W A}
       (rp : Right T (λ h. goes h ≡ true) P PC PV S p pV) (rq : Right T (λ h. goes h ≡ false) Q QC QV S q qV)
       (begins : Begins PV (λ h. goes h ≡ true)) (joins : Joins T QV S (gone goes)) where
@@ -144,86 +141,3 @@ module _ {K W : Type 0} (T : Tongue K W) where
     head_goes : (ts used rest : Toks K) → ts ≡ used ++ rest → (b : Bool) → goes (head_kind T ts) ≡ b → (t : Tok K) (after other : Toks K) → rest ≡ t ∷ after → goes (head_kind T (used ++ t ∷ other)) ≡ b
     head_goes ts used rest parts b here t after other is =
         ap goes (sym (same_head T used t after other) ∙ ap (λ u. head_kind T (used ++ u)) (sym is) ∙ ap (head_kind T) (sym parts)) ∙ here
-
-    one_goes : (used other : Toks K) (x : A) → PV used x → goes (head_kind T (used ++ other)) ≡ true
-    one_goes used other x l = let b = begins used x l in ap (λ u. goes (head_kind T (u ++ other))) b.2 ∙ b.3
-
-    other_goes : (used rest : Toks K) (x : A) → QV used x → S (head_kind T rest) ≡ true → goes (head_kind T (used ++ rest)) ≡ false
-    other_goes used rest x l s = gone_false goes (head_kind T (used ++ rest)) (joins used rest x l s)
-
-    sound_either : (ts : Toks K) (x : A) (rest : Toks K) → either T goes p q ts ≡ good x rest → Accepts T (Or P Q) (either T goes p q) (either T goes pV qV) ts x rest
-    sound_either ts x rest e = elim (bool_cases (goes (head_kind T ts))) [
-      | inl here ↦
-          let one = rp.sound ts x rest here (sym (goes_one goes p q ts here) ∙ e) in
-          let go = λ (other : Toks K). one_goes one.used other x (rp.within one.used x one.phrase) in
-          record {
-            used = one.used;
-            parts = one.parts;
-            phrase = inl one.phrase;
-            again = λ other h. goes_one goes p q (one.used ++ other) (go other) ∙ one.again other h;
-            wide = λ other h. goes_one goes pV qV (one.used ++ other) (go other) ∙ one.wide other h;
-          }
-      | inr away ↦
-          let two = rq.sound ts x rest away (sym (goes_other goes p q ts away) ∙ e) in
-          let go : (other : Toks K) → head_kind T other ≡ head_kind T rest → goes (head_kind T (two.used ++ other)) ≡ false =
-          λ other h. ap goes (same_heads T two.used other rest h ∙ ap (head_kind T) (sym two.parts)) ∙ away in
-          record {
-            used = two.used;
-            parts = two.parts;
-            phrase = inr two.phrase;
-            again = λ other h. goes_other goes p q (two.used ++ other) (go other h) ∙ two.again other h;
-            wide = λ other h. goes_other goes pV qV (two.used ++ other) (go other h) ∙ two.wide other h;
-          }
-    ]
-
-    refused_either : (ts : Toks K) (r : Refusal W) → either T goes p q ts ≡ Err r → Refuses T (λ n. Or (PC n) (QC n)) (Or PV QV) (either T goes p q) (either T goes pV qV) ts r
-    refused_either ts r e = elim (bool_cases (goes (head_kind T ts))) [
-      | inl here ↦
-          let one = rp.refused ts r here (sym (goes_one goes p q ts here) ∙ e) in
-          let go = head_goes ts one.used one.rest one.parts true here in
-          record {
-            used = one.used;
-            rest = one.rest;
-            parts = one.parts;
-            clean = λ n. let c = one.clean n in (c.0, c.1, inl c.2);
-            stuck = λ t after other is. let s = one.stuck t after other is in (s.0, goes_one goes p q (one.used ++ t ∷ other) (go t after other is) ∙ s.1);
-            reason = elim one.reason [
-              | inl l ↦ inl (record { is = l.is; stuck = λ t after other is. let s = l.stuck t after other is in (s.0, goes_one goes pV qV (one.used ++ t ∷ other) (go t after other is) ∙ s.1) })
-              | inr l ↦ inr (record { is = l.is; token = l.token; after = l.after; begins = l.begins; more = l.more; value = l.value; goes-on = inl l.goes-on })
-            ];
-          }
-      | inr away ↦
-          let two = rq.refused ts r away (sym (goes_other goes p q ts away) ∙ e) in
-          let go = head_goes ts two.used two.rest two.parts false away in
-          record {
-            used = two.used;
-            rest = two.rest;
-            parts = two.parts;
-            clean = λ n. let c = two.clean n in (c.0, c.1, inr c.2);
-            stuck = λ t after other is. let s = two.stuck t after other is in (s.0, goes_other goes p q (two.used ++ t ∷ other) (go t after other is) ∙ s.1);
-            reason = elim two.reason [
-              | inl l ↦ inl (record { is = l.is; stuck = λ t after other is. let s = l.stuck t after other is in (s.0, goes_other goes pV qV (two.used ++ t ∷ other) (go t after other is) ∙ s.1) })
-              | inr l ↦ inr (record { is = l.is; token = l.token; after = l.after; begins = l.begins; more = l.more; value = l.value; goes-on = inr l.goes-on })
-            ];
-          }
-    ]
-
-    pub right_either : Right T Any (Or P Q) (λ n. Or (PC n) (QC n)) (Or PV QV) S (either T goes p q) (either T goes pV qV)
-    right_either = record {
-      sound = λ ts x rest _ e. sound_either ts x rest e;
-      narrow = record {
-        all = λ used rest x _ l s. elim l [
-          | inl one ↦ let here = one_goes used rest x (rp.within used x one) in goes_one goes p q (used ++ rest) here ∙ rp.narrow.all used rest x here one s
-          | inr two ↦ let away = other_goes used rest x (rq.within used x two) s in goes_other goes p q (used ++ rest) away ∙ rq.narrow.all used rest x away two s
-        ];
-      };
-      wide = record {
-        all = λ used rest x _ l s. elim l [
-          | inl one ↦ let here = one_goes used rest x one in goes_one goes pV qV (used ++ rest) here ∙ rp.wide.all used rest x here one s
-          | inr two ↦ let away = other_goes used rest x two s in goes_other goes pV qV (used ++ rest) away ∙ rq.wide.all used rest x away two s
-        ];
-      };
-      refused = λ ts r _ e. refused_either ts r e;
-      within = λ ts x l. elim l [ inl one ↦ inl (rp.within ts x one) | inr two ↦ inr (rq.within ts x two) ];
-      keeps = λ n ts x l. elim l [ inl one ↦ inl (rp.keeps n ts x one) | inr two ↦ inr (rq.keeps n ts x two) ];
-    }

@@ -6,9 +6,9 @@ use Rattle.text_reading.specs.declared.stop.Stop.TheVariants.{Memory, Refused}
 use Rattle.text_reading.specs.Tokens.{Tok, Toks, Tongue, head_kind}
 use Rattle.text_reading.specs.Parsing.{Outcome, Parser, ◌>>=◌, and_then, loop, many, Fails}
 use Rattle.text_reading.specs.Grammar.{Lang, Waiver, waived, Many, Done, Next}
-use Rattle.text_reading.proofs.Theory.{Right, Takes, Limit, Begins, Joins, good, ok_fst, ok_snd, bind_ok, bind_err, bool_cases, same_head, ran_again, Again, Any}
+use Rattle.text_reading.proofs.Theory.{Right, Takes, Limit, Begins, good, ok_fst, ok_snd, bind_ok, bind_err, bool_cases, same_head, ran_again, Again, Any}
 
-nothing_left : {K : Type 0} (ts : Toks K) → length ts ≤ 0 → ts ≡ []
+pub nothing_left : {K : Type 0} (ts : Toks K) → length ts ≤ 0 → ts ≡ []
 nothing_left [] h = refl
 nothing_left (t ∷ ts) h = absurd (omega arith)
 
@@ -21,9 +21,6 @@ stop_false goes S h e = elim (bool_cases (goes h)) [ inl here ↦ absurd (let f 
 
 pub stop_S : {K : Type 0} (goes S : K → Bool) (h : K) → stop goes S h ≡ true → S h ≡ true
 stop_S goes S h e = elim (bool_cases (goes h)) [ inl here ↦ absurd (let f = rw here at e in (cc)) | inr gone ↦ rw gone at e ]
-
-pub stop_is : {K : Type 0} (goes S : K → Bool) (h : K) → goes h ≡ false → S h ≡ true → stop goes S h ≡ true
-stop_is goes S h e s = rw (e, s) refl
 
 module _ {K W : Type 0} (T : Tongue K W) where
   pub loop_goes : {A : Type 0} (goes : K → Bool) (step : A → Parser K W A) (n : ℕ) (a : A) (ts : Toks K) → goes (head_kind T ts) ≡ true → loop T goes step (suc n) a ts ≡ (step a >>= loop T goes step n) ts
@@ -61,18 +58,18 @@ module _ {K W : Type 0} (T : Tongue K W) where
             let fits : length (us ++ rest) ≤ n = omega (arith, ap length regroup, length-append ts (us ++ rest), ap length g.2) in
             ap (loop T goes step (suc n) a) regroup ∙ loop_goes goes step n a (ts ++ (us ++ rest)) here ∙ ap (λ o. and_then o (loop T goes step n)) one-step ∙ later n rest fits s
 
-    takes_many : (a : A) → Takes T Any (Many Step a) (stop goes S) (many T goes step a)
+    pub takes_many : (a : A) → Takes T Any (Many Step a) (stop goes S) (many T goes step a)
     takes_many a = record { all = λ used rest x h l s. loop_takes l (length (used ++ rest)) rest (omega arith) s }
 
   -- Behind the refused token's first step a loop is refused, with any number of turns that is enough.
-  first_stuck : {A : Type 0} (goes : K → Bool) (step : A → Parser K W A) (a : A) (ts : Toks K) → goes (head_kind T ts) ≡ true → (used rest : Toks K) → ts ≡ used ++ rest → (t : Tok K) (after other : Toks K) → rest ≡ t ∷ after
+  pub first_stuck : {A : Type 0} (goes : K → Bool) (step : A → Parser K W A) (a : A) (ts : Toks K) → goes (head_kind T ts) ≡ true → (used rest : Toks K) → ts ≡ used ++ rest → (t : Tok K) (after other : Toks K) → rest ≡ t ∷ after
       → ((s : Refusal W) × (step a (used ++ t ∷ other) ≡ Err s)) → (m : ℕ) → length (used ++ t ∷ other) ≤ m → (s : Refusal W) × (loop T goes step m a (used ++ t ∷ other) ≡ Err s)
   first_stuck goes step a ts here used rest parts t after other is f zero le = absurd (omega (arith, length-append used (t ∷ other)))
   first_stuck goes step a ts here used rest parts t after other is f (suc m) le =
       let heads : head_kind T ts ≡ head_kind T (used ++ t ∷ other) = ap (head_kind T) (parts ∙ ap (λ u. used ++ u) is) ∙ same_head T used t after other in
       (f.0, loop_goes goes step m a (used ++ t ∷ other) (ap goes (sym heads) ∙ here) ∙ ap (λ o. and_then o (loop T goes step m)) f.1)
 
-  later_stuck : {A : Type 0} (goes : K → Bool) (step : A → Parser K W A) (a b : A) (ts mid one two rest : Toks K) → Again T (step a) one mid b → goes (head_kind T ts) ≡ true
+  pub later_stuck : {A : Type 0} (goes : K → Bool) (step : A → Parser K W A) (a b : A) (ts mid one two rest : Toks K) → Again T (step a) one mid b → goes (head_kind T ts) ≡ true
       → ts ≡ one ++ mid → mid ≡ two ++ rest → (t : Tok K) (after other : Toks K) → rest ≡ t ∷ after → ((g : Tok K) × (vs : Toks K) × (one ≡ g ∷ vs))
       → ((m : ℕ) → length (two ++ t ∷ other) ≤ m → (s : Refusal W) × (loop T goes step m b (two ++ t ∷ other) ≡ Err s))
       → (m : ℕ) → length ((one ++ two) ++ t ∷ other) ≤ m → (s : Refusal W) × (loop T goes step m a ((one ++ two) ++ t ∷ other) ≡ Err s)
@@ -86,7 +83,7 @@ module _ {K W : Type 0} (T : Tongue K W) where
       (s.0, loop_goes goes step m a ((one ++ two) ++ t ∷ other) go ∙ ap (λ o. and_then o (loop T goes step m)) ran ∙ s.1)
 
   -- a turn that is taken again, and the turns behind it
-  later_again : {A : Type 0} (goes : K → Bool) (step : A → Parser K W A) (a b x : A) (one two mid rest : Toks K) → Again T (step a) one mid b → mid ≡ two ++ rest → ((g : Tok K) × (vs : Toks K) × (one ≡ g ∷ vs) × (goes g.kind ≡ true))
+  pub later_again : {A : Type 0} (goes : K → Bool) (step : A → Parser K W A) (a b x : A) (one two mid rest : Toks K) → Again T (step a) one mid b → mid ≡ two ++ rest → ((g : Tok K) × (vs : Toks K) × (one ≡ g ∷ vs) × (goes g.kind ≡ true))
       → (other : Toks K) → head_kind T other ≡ head_kind T rest → ((m : ℕ) → length (two ++ other) ≤ m → loop T goes step m b (two ++ other) ≡ good x other)
       → (m : ℕ) → length ((one ++ two) ++ other) ≤ m → loop T goes step m a ((one ++ two) ++ other) ≡ good x other
   later_again goes step a b x one two mid rest again parts some other h later zero le = absurd (omega (arith, length-append (one ++ two) other, length-append one two, ap length some.2))
@@ -230,47 +227,6 @@ module _ {K W : Type 0} (T : Tongue K W) where
               ]
         ]
 
-    many_within : {a b : A} {ts : Toks K} → Many Step a ts b → Many StepV a ts b
-    many_within Done = Done
-    many_within (Next {a = a} {b = b} {ts = ts} one two) = Next ((each a).within ts b one) (many_within two)
-
-    many_keeps : (n : Waiver W) {a b : A} {ts : Toks K} → Many Step a ts b → Many (StepC n) a ts b
-    many_keeps n Done = Done
-    many_keeps n (Next {a = a} {b = b} {ts = ts} one two) = Next ((each a).keeps n ts b one) (many_keeps n two)
-
-    pub right_many : (a : A) → Right T Any (Many Step a) (λ n. Many (StepC n) a) (Many StepV a) (stop goes S) (many T goes step a) (many T goes stepV a)
-    right_many a = record {
-      sound = λ ts x rest h e.
-          let one = loop_sound (length ts) a x ts rest (omega arith) e in
-          record {
-            used = one.used;
-            parts = one.parts;
-            phrase = one.phrase;
-            again = λ other e'. one.again other e' (length (one.used ++ other)) (omega arith);
-            wide = λ other e'. one.wide other e' (length (one.used ++ other)) (omega arith);
-          };
-      narrow = takes_many (λ b. (each b).narrow) begins_narrow meets a;
-      wide = takes_many (λ b. (each b).wide) begins meets a;
-      refused = λ ts r h e.
-          let one = loop_refused (length ts) a ts r (omega arith) e in
-          record {
-            used = one.used;
-            rest = one.rest;
-            parts = one.parts;
-            clean = one.clean;
-            stuck = λ t after other is. one.stuck t after other is (length (one.used ++ t ∷ other)) (omega arith);
-            reason = elim one.reason [
-              | inl l ↦ inl (record { is = l.is; stuck = λ t after other is. l.stuck t after other is (length (one.used ++ t ∷ other)) (omega arith) })
-              | inr l ↦ inr l
-            ];
-          };
-      within = λ ts x l. many_within l;
-      keeps = λ n ts x l. many_keeps n l;
-    }
-
-    pub joins_many : (a : A) → Joins T (Many StepV a) (stop goes S) S
-    joins_many a back rest y l s = many_head (λ b. (each b).wide) begins meets l rest s
-
     -- a step takes a token
     pub shrinks : (a x : A) (ts rest : Toks K) → goes (head_kind T ts) ≡ true → step a ts ≡ good x rest → length rest < length ts
     shrinks a x ts rest h e =
@@ -294,12 +250,6 @@ module _ {K W : Type 0} (T : Tongue K W) where
   turn goes step a [] whole n ends le here same = absurd (let f = sym here ∙ ends in (cc))
   turn goes step a (t ∷ ts) whole zero ends le here same = absurd (omega arith)
   turn goes step a (t ∷ ts) whole (suc m) ends le here same = (m, refl, sym (loop_goes goes step m a (t ∷ ts) here) ∙ same)
-
-  pub turned : {A : Type 0} {goes : K → Bool} {step : A → Parser K W A} {a b : A} {ts rest : Toks K} {whole : Outcome K W A} → goes T.end ≡ false → Turns goes step a ts whole → goes (head_kind T ts) ≡ true → step a ts ≡ good b rest → length rest < length ts → Turns goes step b rest whole
-  turned {goes = goes} {step = step} {a = a} {ts = ts} {whole = whole} ends t here e less =
-      let m = turn goes step a ts whole t.turns ends t.fits here t.same in
-      let fits = t.fits in
-      record { turns = m.0; fits = omega (arith, m.1); same = ap (λ o. and_then o (loop T goes step m.0)) (sym e) ∙ m.2 }
 
   -- what a loop ensures where its step failed
   pub fails : {A : Type 0} {goes : K → Bool} {step : A → Parser K W A} {a : A} {ts : Toks K} {whole : Outcome K W A} (e : Stop W) → goes T.end ≡ false → Turns goes step a ts whole → goes (head_kind T ts) ≡ true → Fails (step a ts) e → Fails whole e

@@ -1,9 +1,9 @@
 -- Parsers that read exactly the phrases of a grammar, and refuse at the first token that can't follow.
-use Rattle.std.proofs.Common.{◌≡◌, Bool, true, false, [], ◌∷◌, ◌++◌, drop, Ok, Err, ◌⊎◌, inl, inr, refl, sym, ap, subst, ◌∙◌, append_assoc}
+use Rattle.std.proofs.Common.{◌≡◌, Bool, true, false, [], ◌∷◌, ◌++◌, Ok, Err, ◌⊎◌, inl, inr, refl, sym, ap, subst, ◌∙◌, append_assoc}
 use Rattle.text_reading.specs.declared.stop.Refusal.{Refusal}
-use Rattle.text_reading.specs.Tokens.{Bytes, Tok, Toks, Tongue, head_kind}
-use Rattle.text_reading.specs.Parsing.{Outcome, Parser, ◌>>=◌, ◌<$>◌, and_then, pure, take_token, choose, sees, expect}
-use Rattle.text_reading.specs.Grammar.{Lang, Waiver, waived, Empty, Token, Mark, Then, Says, First}
+use Rattle.text_reading.specs.Tokens.{Tok, Toks, Tongue, head_kind}
+use Rattle.text_reading.specs.Parsing.{Outcome, Parser, ◌>>=◌, ◌<$>◌, and_then, pure}
+use Rattle.text_reading.specs.Grammar.{Lang, Waiver, waived, Empty, Then, Says}
 
 abbrev pub Any : {K : Type 0} → K → Type 0
 Any _ = Unit {0}
@@ -17,10 +17,6 @@ good x ts = Ok (x, ts)
 
 abbrev pub Productive : {K A : Type 0} → Lang K A → Type 0
 Productive {K} {A} L = (ts : Toks K) × (x : A) × L ts x
-
--- a phrase has a token
-abbrev pub NonEmpty : {K A : Type 0} → Lang K A → Type 0
-NonEmpty {K} {A} L = (ts : Toks K) (x : A) → L ts x → (t : Tok K) × (us : Toks K) × (ts ≡ t ∷ us)
 
 -- and the first is of such a kind
 abbrev pub Begins : {K A : Type 0} → Lang K A → (K → Type 0) → Type 0
@@ -53,20 +49,6 @@ abbrev pub token_of : {K : Type 0} → K → Tok K
 token_of kind = record { kind = kind; text = []; left = 0 }
 
 -- ---- first tokens
-
-pub begins_mark : {K : Type 0} (kind : K) (G : K → Type 0) → G kind → Begins (Mark kind) G
-begins_mark kind G g ts x l = (l.0, [], l.1, subst G (sym l.2) g)
-
-pub begins_token : {K : Type 0} (kind : K) (G : K → Type 0) → G kind → Begins (Token kind) G
-begins_token kind G g ts x l = (l.0, [], l.1, subst G (sym l.2) g)
-
-pub begins_then : {K A B : Type 0} (P : Lang K A) (Q : A → Lang K B) (G : K → Type 0) → Begins P G → Begins (Then P Q) G
-begins_then P Q G h ts y l =
-    let b = h l.0 l.2 l.4 in
-    (b.0, b.1 ++ l.1, l.3 ∙ ap (λ u. u ++ l.1) b.2, b.3)
-
-pub some_of : {K A : Type 0} (L : Lang K A) (G : K → Type 0) → Begins L G → NonEmpty L
-some_of L G h ts x l = let b = h ts x l in (b.0, b.1, b.2)
 
 module _ {K W : Type 0} (T : Tongue K W) where
   -- ---- what a parser does
@@ -132,7 +114,7 @@ module _ {K W : Type 0} (T : Tongue K W) where
 
   -- ---- no tokens, before a kind at which the parser before has stopped
 
-  takes_end : {A : Type 0} (S : K → Bool) (a : A) → Takes Any (Empty a) S (pure a)
+  pub takes_end : {A : Type 0} (S : K → Bool) (a : A) → Takes Any (Empty a) S (pure a)
   takes_end S a = record { all = λ used rest x _ l _. ap (λ u. good a (u ++ rest)) l.0 ∙ ap (λ v. good v rest) (sym l.1) }
 
   pub right_end : {A : Type 0} (S : K → Bool) (a : A) → Right Any (Empty a) (λ n. Empty a) (Empty a) S (pure a) (pure a)
@@ -173,7 +155,7 @@ module _ {K W : Type 0} (T : Tongue K W) where
   ran_again p mid one two rest x again parts other h =
       ap p (append_assoc one two other) ∙ again (two ++ other) (same_heads two other rest h ∙ ap (head_kind T) (sym parts))
 
-  limit_first : {A B : Type 0} {P : Lang K A} {Q : A → Lang K B} {used rest : Toks K} {r : Refusal W} → ((x : A) → Productive (Q x)) → Limit P used rest r → Limit (Then P Q) used rest r
+  pub limit_first : {A B : Type 0} {P : Lang K A} {Q : A → Lang K B} {used rest : Toks K} {r : Refusal W} → ((x : A) → Productive (Q x)) → Limit P used rest r → Limit (Then P Q) used rest r
   limit_first {used = used} goes l =
       let g = goes l.value in
       record {
@@ -186,7 +168,7 @@ module _ {K W : Type 0} (T : Tongue K W) where
         goes-on = (used ++ l.token ∷ l.more, g.0, l.value, sym (append_assoc used (l.token ∷ l.more) g.0), l.goes-on, g.2);
       }
 
-  limit_later : {A B : Type 0} {P : Lang K A} {Q : A → Lang K B} {rest : Toks K} {r : Refusal W} (one two : Toks K) (x : A) → P one x → Limit (Q x) two rest r → Limit (Then P Q) (one ++ two) rest r
+  pub limit_later : {A B : Type 0} {P : Lang K A} {Q : A → Lang K B} {rest : Toks K} {r : Refusal W} (one two : Toks K) (x : A) → P one x → Limit (Q x) two rest r → Limit (Then P Q) (one ++ two) rest r
   limit_later one two x phrase l = record {
     is = l.is;
     token = l.token;
@@ -280,235 +262,7 @@ module _ {K W : Type 0} (T : Tongue K W) where
       → Right ok P PC PV S p pV → Right ok (Says f P) (λ n. Says f (PC n)) (Says f PV) S (f <$> p) (f <$> pV)
   right_says {S = S} f rp =
       right_then rp (λ x. right_end S (f x)) (λ n x. ([], f x, (refl, refl))) (λ x. joins_empty (f x) S)
-
   -- ---- one token
-
-  take_sound : (kind : K) (ts : Toks K) (x : Bytes) (rest : Toks K) → head_kind T ts ≡ kind → (kind ≡ T.end → ⊥) → take_token {W = W} ts ≡ good x rest → Accepts (Token kind) take_token take_token ts x rest
-  take_sound kind [] x rest h some e = absurd (some (sym h))
-  take_sound kind (t ∷ ts) x rest h some e =
-      let is = ok_fst t.text x ts rest e in
-      record { used = t ∷ []; parts = ap (λ u. t ∷ u) (ok_snd t.text x ts rest e); phrase = (t, refl, h, sym is); again = λ other _. ap (λ v. good v other) is; wide = λ other _. ap (λ v. good v other) is }
-
-  takes_token : (kind : K) → Takes (λ h. h ≡ kind) (Token kind) always take_token
-  takes_token kind = record { all = λ used rest x h l _. ap (λ u. take_token (u ++ rest)) l.1 ∙ ap (λ v. good v rest) (sym l.3) }
-
-  -- the next token, which has this kind
-  pub right_take : (kind : K) → (kind ≡ T.end → ⊥) → Right (λ h. h ≡ kind) (Token kind) (λ n. Token kind) (Token kind) always take_token take_token
-  right_take kind some = record {
-    sound = λ ts x rest h e. take_sound kind ts x rest h some e;
-    narrow = takes_token kind;
-    wide = takes_token kind;
-    refused = λ ts r h e. absurd cc;
-    within = λ ts x l. l;
-    keeps = λ n ts x l. l;
-  }
-
-  takes_mark : (kind : K) → Takes Any (Mark kind) always (expect T kind)
-  unfolding expect sees
-  takes_mark kind = record {
-    all = λ used rest x _ l _.
-        let here : T.same l.0.kind kind ≡ true = ap (λ h. T.same h kind) l.2 ∙ T.same_self kind in
-        ap (λ u. (expect T) kind (u ++ rest)) l.1 ∙ rw here refl;
-  }
-
-  expect_sound : (kind : K) → (kind ≡ T.end → ⊥) → (ts : Toks K) (x : Unit {0}) (rest : Toks K) → expect T kind ts ≡ good x rest → Accepts (Mark kind) (expect T kind) (expect T kind) ts x rest
-  unfolding expect sees
-  expect_sound kind some ts x rest e =
-      elim (bool_cases (T.same (head_kind T ts) kind)) [
-        | inl here ↦ expect_took kind some ts x rest (T.same_is (head_kind T ts) kind here) (rw here at e)
-        | inr gone ↦ absurd (let f = rw gone at e in (cc))
-      ]
-    where
-      expect_took : (kind : K) → (kind ≡ T.end → ⊥) → (ts : Toks K) (x : Unit {0}) (rest : Toks K) → head_kind T ts ≡ kind → good {W = W} tt (drop 1 ts) ≡ good x rest → Accepts (Mark kind) (expect T kind) (expect T kind) ts x rest
-      expect_took kind some [] x rest h e = absurd (some (sym h))
-      expect_took kind some (t ∷ ts) x rest h e =
-          let all = λ (other : Toks K). (takes_mark kind).all (t ∷ []) other x tt (t, refl, h) refl in
-          record { used = t ∷ []; parts = ap (λ u. t ∷ u) (ok_snd tt x ts rest e); phrase = (t, refl, h); again = λ other _. all other; wide = λ other _. all other }
-
-  pub expect_err : (kind : K) (ts : Toks K) → T.same (head_kind T ts) kind ≡ false → expect T kind ts ≡ Err (T.refusal ts)
-  unfolding expect sees
-  expect_err kind ts gone = rw gone refl
-
-  expect_refused : (kind : K) (ts : Toks K) (r : Refusal W) → expect T kind ts ≡ Err r → Refuses (λ n. Mark kind) (Mark kind) (expect T kind) (expect T kind) ts r
-  unfolding expect sees
-  expect_refused kind ts r e =
-      elim (bool_cases (T.same (head_kind T ts) kind)) [
-        | inl here ↦ absurd (let f = rw here at e in (cc))
-        | inr gone ↦
-            let f = rw gone at e in
-            let again : (t : Tok K) (after other : Toks K) → ts ≡ t ∷ after → (s : Refusal W) × (expect T kind (t ∷ other) ≡ Err s) =
-            λ t after other is. (T.refusal (t ∷ other), expect_err kind (t ∷ other) (ap (λ u. T.same (head_kind T u) kind) (sym is) ∙ gone)) in
-            record {
-              used = [];
-              rest = ts;
-              parts = refl;
-              clean = λ n. (token_of kind ∷ [], tt, (token_of kind, refl, refl));
-              stuck = again;
-              reason = inl (record { is = sym (cc); stuck = again });
-            }
-      ]
-
-  pub right_expect : (kind : K) → (kind ≡ T.end → ⊥) → Right Any (Mark kind) (λ n. Mark kind) (Mark kind) always (expect T kind) (expect T kind)
-  right_expect kind some = record {
-    sound = λ ts x rest _ e. expect_sound kind some ts x rest e;
-    narrow = takes_mark kind;
-    wide = takes_mark kind;
-    refused = λ ts r _ e. expect_refused kind ts r e;
-    within = λ ts x l. l;
-    keeps = λ n ts x l. l;
-  }
-
   -- ---- by the kind of the first token
-
-  -- The alternative of a kind: a parser that is right, one that only passes a limit, or nothing.
-  pub data Alternative {A : Type 0} (By : K → Lang K A) (ByC : Waiver W → K → Lang K A) (ByV : K → Lang K A) (S : K → Bool) (by byV : K → Parser K W A) (kind : K) : Type 0 where
-    Reads : Right (λ h. h ≡ kind) (By kind) (λ n. ByC n kind) (ByV kind) S (by kind) (byV kind) → NonEmpty (ByV kind) → ((ts : Toks K) (x : A) → ByV kind ts x → First T ByV ts x)
-        → ((n : Waiver W) (ts : Toks K) (x : A) → ByC n kind ts x → First T (ByC n) ts x) → Alternative By ByC ByV S by byV kind
-    Limits : (kind ≡ T.end → ⊥) → ((ts : Toks K) (x : A) → By kind ts x → ⊥) → ((ts : Toks K) → (r : Refusal W) × (by kind ts ≡ Err r) × T.IsFault ts r) → Takes (λ h. h ≡ kind) (ByV kind) S (byV kind) → NonEmpty (ByV kind)
-        → ((t : Tok K) (ts : Toks K) (r : Refusal W) → t.kind ≡ kind → by kind (t ∷ ts) ≡ Err r → (more : Toks K) × (x : A) × First T (ByC (waived (t ∷ ts) r)) (t ∷ more) x)
-        → Alternative By ByC ByV S by byV kind
-    Leaves : ((ts : Toks K) (x : A) → ByV kind ts x → ⊥) → ((ts : Toks K) (x : A) → By kind ts x → ⊥) → ((ts : Toks K) → by kind ts ≡ Err (T.refusal ts)) → ((ts : Toks K) → byV kind ts ≡ Err (T.refusal ts)) → Alternative By ByC ByV S by byV kind
-
-  by_head : {A : Type 0} (kind : K) (L : Lang K A) (used rest : Toks K) (x : A) → NonEmpty L → L used x → head_kind T (used ++ rest) ≡ head_kind T used
-  by_head kind L used rest x some l = let b = some used x l in ap (λ u. (head_kind T) (u ++ rest)) b.2 ∙ sym (ap (head_kind T) b.2)
-
-  -- behind the same first token a choice does the same
-  choose_again : {A : Type 0} (by : K → Parser K W A) (ts used rest : Toks K) → ts ≡ used ++ rest → (t : Tok K) (after other : Toks K) → rest ≡ t ∷ after
-      → ((s : Refusal W) × (by (head_kind T ts) (used ++ t ∷ other) ≡ Err s)) → (s : Refusal W) × (choose T by (used ++ t ∷ other) ≡ Err s)
-  choose_again by ts used rest parts t after other is f =
-      let heads : head_kind T ts ≡ head_kind T (used ++ t ∷ other) = ap (head_kind T) (parts ∙ ap (λ u. used ++ u) is) ∙ same_head used t after other in
-      (f.0, ap (λ g. by g (used ++ t ∷ other)) (sym heads) ∙ f.1)
-
-  sound_by : {A : Type 0} {By ByV : K → Lang K A} {ByC : Waiver W → K → Lang K A} {S : K → Bool} {by byV : K → Parser K W A} (kind : K) → Alternative By ByC ByV S by byV kind
-      → (ts : Toks K) (x : A) (rest : Toks K) → head_kind T ts ≡ kind → by kind ts ≡ good x rest → Accepts (First T By) (choose T by) (choose T byV) ts x rest
-  sound_by {By = By} {by = by} {byV = byV} kind (Reads right some to to') ts x rest h e =
-      let one = right.sound ts x rest h e in
-      let same-head = by_head kind _ one.used rest x some (right.within one.used x one.phrase) in
-      let is : kind ≡ head_kind T one.used = sym h ∙ ap (head_kind T) one.parts ∙ same-head in
-      let begins = λ (other : Toks K). by_head kind _ one.used other x some (right.within one.used x one.phrase) ∙ sym is in
-      record {
-        used = one.used;
-        parts = one.parts;
-        phrase = subst (λ g. By g one.used x) is one.phrase;
-        again = λ other e'. ap (λ g. by g (one.used ++ other)) (begins other) ∙ one.again other e';
-        wide = λ other e'. ap (λ g. byV g (one.used ++ other)) (begins other) ∙ one.wide other e';
-      }
-  sound_by kind (Limits no-end none errs wide some goes) ts x rest h e = absurd (let f = (errs ts).1 in (cc))
-  sound_by kind (Leaves none none' errs errsV) ts x rest h e = absurd (let f = errs ts in (cc))
-
-  narrow_by : {A : Type 0} {By ByV : K → Lang K A} {ByC : Waiver W → K → Lang K A} {S : K → Bool} {by byV : K → Parser K W A} (kind : K) → Alternative By ByC ByV S by byV kind
-      → (used rest : Toks K) (x : A) → head_kind T used ≡ kind → By kind used x → S (head_kind T rest) ≡ true → choose T by (used ++ rest) ≡ good x rest
-  narrow_by {by = by} kind (Reads right some to to') used rest x h l s =
-      let is = by_head kind _ used rest x some (right.within used x l) ∙ h in
-      ap (λ g. by g (used ++ rest)) is ∙ right.narrow.all used rest x is l s
-  narrow_by kind (Limits no-end none errs wide some goes) used rest x h l s = absurd (none used x l)
-  narrow_by kind (Leaves none none' errs errsV) used rest x h l s = absurd (none' used x l)
-
-  wide_by : {A : Type 0} {By ByV : K → Lang K A} {ByC : Waiver W → K → Lang K A} {S : K → Bool} {by byV : K → Parser K W A} (kind : K) → Alternative By ByC ByV S by byV kind
-      → (used rest : Toks K) (x : A) → head_kind T used ≡ kind → ByV kind used x → S (head_kind T rest) ≡ true → choose T byV (used ++ rest) ≡ good x rest
-  wide_by {byV = byV} kind (Reads right some to to') used rest x h l s =
-      let is = by_head kind _ used rest x some l ∙ h in
-      ap (λ g. byV g (used ++ rest)) is ∙ right.wide.all used rest x is l s
-  wide_by {byV = byV} kind (Limits no-end none errs wide some goes) used rest x h l s =
-      let is = by_head kind _ used rest x some l ∙ h in
-      ap (λ g. byV g (used ++ rest)) is ∙ wide.all used rest x is l s
-  wide_by kind (Leaves none none' errs errsV) used rest x h l s = absurd (none used x l)
-
-  within_by : {A : Type 0} {By ByV : K → Lang K A} {ByC : Waiver W → K → Lang K A} {S : K → Bool} {by byV : K → Parser K W A} (kind : K) → Alternative By ByC ByV S by byV kind → (ts : Toks K) (x : A) → By kind ts x → ByV kind ts x
-  within_by kind (Reads right some to to') ts x l = right.within ts x l
-  within_by kind (Limits no-end none errs wide some goes) ts x l = absurd (none ts x l)
-  within_by kind (Leaves none none' errs errsV) ts x l = absurd (none' ts x l)
-
-  keeps_by : {A : Type 0} {By ByV : K → Lang K A} {ByC : Waiver W → K → Lang K A} {S : K → Bool} {by byV : K → Parser K W A} (kind : K)
-      → Alternative By ByC ByV S by byV kind → (n : Waiver W) (ts : Toks K) (x : A) → By kind ts x → ByC n kind ts x
-  keeps_by kind (Reads right some to to') n ts x l = right.keeps n ts x l
-  keeps_by kind (Limits no-end none errs wide some goes) n ts x l = absurd (none ts x l)
-  keeps_by kind (Leaves none none' errs errsV) n ts x l = absurd (none' ts x l)
-
-  limit_to : {A : Type 0} {V V' : Lang K A} {used rest : Toks K} {r : Refusal W} → ((ts : Toks K) (x : A) → V ts x → V' ts x) → Limit V used rest r → Limit V' used rest r
-  limit_to {used = used} f l = record { is = l.is; token = l.token; after = l.after; begins = l.begins; more = l.more; value = l.value; goes-on = f (used ++ l.token ∷ l.more) l.value l.goes-on }
-
-  refused_by : {A : Type 0} {By ByV : K → Lang K A} {ByC : Waiver W → K → Lang K A} {S : K → Bool} {by byV : K → Parser K W A} (kind : K) → Alternative By ByC ByV S by byV kind → ((n : Waiver W) → Productive (First T (ByC n)))
-      → (ts : Toks K) (r : Refusal W) → head_kind T ts ≡ kind → by (head_kind T ts) ts ≡ Err r → Refuses (λ n. First T (ByC n)) (First T ByV) (choose T by) (choose T byV) ts r
-  refused_by {by = by} {byV = byV} kind (Reads right some to to') goes ts r h e =
-      let one = right.refused ts r h (ap (λ g. by g ts) (sym h) ∙ e) in
-      record {
-        used = one.used;
-        rest = one.rest;
-        parts = one.parts;
-        clean = λ n. let c = one.clean n in (c.0, c.1, to' n (one.used ++ c.0) c.1 c.2);
-        stuck = λ t after other is. choose_again by ts one.used one.rest one.parts t after other is (let s = one.stuck t after other is in (s.0, ap (λ g. by g (one.used ++ t ∷ other)) h ∙ s.1));
-        reason = elim one.reason [
-          | inl l ↦ inl (record { is = l.is; stuck = λ t after other is. choose_again byV ts one.used one.rest one.parts t after other is (let s = l.stuck t after other is in (s.0, ap (λ g. byV g (one.used ++ t ∷ other)) h ∙ s.1)) })
-          | inr l ↦ inr (limit_to (to' (waived one.rest r)) l)
-        ];
-      }
-  refused_by {by = by} {byV = byV} kind (Leaves none none' errs errsV) goes ts r h e =
-      let is : r ≡ T.refusal ts = let f = ap (λ g. by g ts) (sym h) ∙ e in let g = errs ts in (cc) in
-      record {
-        used = [];
-        rest = ts;
-        parts = refl;
-        clean = goes;
-        stuck = λ t after other is. choose_again by ts [] ts refl t after other is (T.refusal (t ∷ other), ap (λ g. by g (t ∷ other)) h ∙ errs (t ∷ other));
-        reason = inl (record { is = is; stuck = λ t after other is. choose_again byV ts [] ts refl t after other is (T.refusal (t ∷ other), ap (λ g. byV g (t ∷ other)) h ∙ errsV (t ∷ other)) });
-      }
-  refused_by {by = by} {byV = byV} kind (Limits no-end none errs wide some goes-on) goes [] r h e = absurd (no-end (sym h))
-  refused_by {ByV = ByV} {by = by} {byV = byV} kind (Limits no-end none errs wide some goes-on) goes (t ∷ ts) r h e =
-      let g = errs (t ∷ ts) in
-      let is : g.0 ≡ r = let f = ap (λ k. by k (t ∷ ts)) (sym h) ∙ e in let e' = g.1 in (cc) in
-      let on = goes-on t ts r h (ap (λ k. by k (t ∷ ts)) (sym h) ∙ e) in
-      record {
-        used = [];
-        rest = t ∷ ts;
-        parts = refl;
-        clean = goes;
-        stuck = λ u after other is'. choose_again by (t ∷ ts) [] (t ∷ ts) refl u after other is' (let s = errs (u ∷ other) in (s.0, ap (λ g. by g (u ∷ other)) h ∙ s.1));
-        reason = inr (record { is = subst (λ s. T.IsFault (t ∷ ts) s) is g.2; token = t; after = ts; begins = refl; more = on.0; value = on.1; goes-on = on.2 });
-      }
-
-  pub right_first : {A : Type 0} {By ByV : K → Lang K A} {ByC : Waiver W → K → Lang K A} {S : K → Bool} {by byV : K → Parser K W A} → ((kind : K) → Alternative By ByC ByV S by byV kind) → ((n : Waiver W) → Productive (First T (ByC n)))
-      → Right Any (First T By) (λ n. First T (ByC n)) (First T ByV) S (choose T by) (choose T byV)
-  right_first each goes = record {
-    sound = λ ts x rest _ e. sound_by (head_kind T ts) (each (head_kind T ts)) ts x rest refl e;
-    narrow = record { all = λ used rest x _ l s. narrow_by (head_kind T used) (each (head_kind T used)) used rest x refl l s };
-    wide = record { all = λ used rest x _ l s. wide_by (head_kind T used) (each (head_kind T used)) used rest x refl l s };
-    refused = λ ts r _ e. refused_by (head_kind T ts) (each (head_kind T ts)) goes ts r refl e;
-    within = λ ts x l. within_by (head_kind T ts) (each (head_kind T ts)) ts x l;
-    keeps = λ n ts x l. keeps_by (head_kind T ts) (each (head_kind T ts)) n ts x l;
-  }
-
   -- ---- the same parser for fewer inputs
-
-  pub right_at : {A : Type 0} {ok ok' : K → Type 0} {L V : Lang K A} {C : Waiver W → Lang K A} {S : K → Bool} {p pV : Parser K W A} → ((h : K) → ok' h → ok h) → Right ok L C V S p pV → Right ok' L C V S p pV
-  right_at f right = record {
-    sound = λ ts x rest h e. right.sound ts x rest (f (head_kind T ts) h) e;
-    narrow = record { all = λ used rest x h l s. right.narrow.all used rest x (f (head_kind T (used ++ rest)) h) l s };
-    wide = record { all = λ used rest x h l s. right.wide.all used rest x (f (head_kind T (used ++ rest)) h) l s };
-    refused = λ ts r h e. right.refused ts r (f (head_kind T ts) h) e;
-    within = right.within;
-    keeps = right.keeps;
-  }
-
   -- ---- first tokens
-
-  pub joins_begins : {A : Type 0} (L : Lang K A) (S' S : K → Bool) → Begins L (λ h. S h ≡ true) → Joins L S' S
-  joins_begins L S' S h back rest y l s = let b = h back y l in ap (λ u. S (head_kind T (u ++ rest))) b.2 ∙ b.3
-
-  pub joins_then : {A B : Type 0} (P : Lang K A) (Q : A → Lang K B) (S' S1 S : K → Bool) → Joins P S1 S → ((x : A) → Joins (Q x) S' S1) → Joins (Then P Q) S' S
-  joins_then P Q S' S1 S h g back rest y l s =
-      ap (λ u. S (head_kind T u)) (ap (λ u. u ++ rest) l.3 ∙ append_assoc l.0 l.1 rest) ∙ h l.0 (l.1 ++ rest) l.2 l.4 (g l.2 l.1 rest y l.5 s)
-
-  pub to_first : {A : Type 0} (By : K → Lang K A) (kind : K) → Begins (By kind) (λ h. h ≡ kind) → (ts : Toks K) (x : A) → By kind ts x → First T By ts x
-  to_first By kind h ts x l = let b = h ts x l in subst (λ g. By g ts x) (sym (ap (head_kind T) b.2 ∙ b.3)) l
-
-  -- a parser that is asked to stop at fewer kinds
-  pub right_before : {A : Type 0} {ok : K → Type 0} {L V : Lang K A} {C : Waiver W → Lang K A} {S : K → Bool} {p pV : Parser K W A} (S' : K → Bool) → ((h : K) → S' h ≡ true → S h ≡ true) → Right ok L C V S p pV → Right ok L C V S' p pV
-  right_before S' f right = record {
-    sound = right.sound;
-    narrow = record { all = λ used rest x h l s. right.narrow.all used rest x h l (f (head_kind T rest) s) };
-    wide = record { all = λ used rest x h l s. right.wide.all used rest x h l (f (head_kind T rest) s) };
-    refused = right.refused;
-    within = right.within;
-    keeps = right.keeps;
-  }

@@ -1,43 +1,37 @@
-use Rattle.std.proofs.Common.{◌≡◌, ◌∙◌, true, false}
-use Rattle.std.proofs.lemmas.Result.{err_from_is_err_and}
-use Rattle.text_reading.specs.Parsing.{sees}
-use Rattle.text_reading.proofs.Loops.{ended, fails, turned}
-use Rattle.class_tokens.specs.ClassSteps.{tongue, head_kind}
-use Rattle.class_reader.specs.ClassFile.{is_class, classes}
-use Rattle.class_reader.proofs.MemberLasting.{uses_class, end_no_class}
+use Rattle.std.proofs.Common.{◌≡◌, ◌∙◌, true, false, Ok, sym, subst}
+use Rattle.text_reading.specs.Tokens.{head_kind}
+use Rattle.text_reading.specs.Parsing.{sees, Fails}
+use Rattle.text_reading.specs.Phrases.{parser}
+use Rattle.text_reading.proofs.PhraseLoops.{fails_on}
+use Rattle.class_tokens.specs.declared.token.Kind.TheVariants as k
+use Rattle.class_tokens.specs.ClassKinds.{is, is_member_word}
+use Rattle.class_tokens.specs.ClassTongue.{tongue}
+use Rattle.class_reader.specs.ClassTrees.{site}
+use Rattle.class_reader.specs.ClassGrammar.{read, one_class, classes}
+use Rattle.class_reader.proofs.ClassTurns.{classes_turns}
 use Rattle.class_reader.proofs.classes.classes.Goals as goal
 
-pub returns-in_err-found : goal.returns-in_err-found
-unfolding sees classes
-returns-in_err-found c =
-    let here : is_class (head_kind c.turns.cursor) ≡ true = cc in
-    let text : c.turns.marks ≡ c.args.marks.now = c.turns.invariant.1 in
-    let p = err_from_is_err_and c.from_residual.result c.from_residual.ensures.1 in
-    let failed = rw text at c.in_err-found.ensures.reads in
-    record {
-      reads = rw (p.1, p.2) (fails tongue c.in_err-found.field-0.0 end_no_class c.turns.invariant.0 here failed);
-      text = c.in_err-found.ensures.text ∙ text;
-    }
-
 pub turns-smaller : goal.turns-smaller
-unfolding sees classes
-turns-smaller c =
-    let here : is_class (head_kind c.turns.cursor) ≡ true = cc in
-    let text : c.turns.marks ≡ c.args.marks.now = c.turns.invariant.1 in
-    let went = rw text at c.in_ok-found.ensures.reads in
-    (uses_class is_class c.args.marks.now c.turns.found).lt c.turns.cursor c.in_ok-found.found c.one_class.new.cursor here went
+turns-smaller c = (classes_turns c.turns.marks).shrinks c.turns.found c.in-Ok.more c.turns.cursor c.one_class.new.cursor c.in-Ok.ensures.reads
 
 pub turns-preserved : goal.turns-preserved
-unfolding sees classes
+unfolding sees
 turns-preserved c =
-    let here : is_class (head_kind c.turns.cursor) ≡ true = cc in
-    let text : c.turns.marks ≡ c.args.marks.now = c.turns.invariant.1 in
-    let went = rw text at c.in_ok-found.ensures.reads in
-    let fewer = (uses_class is_class c.args.marks.now c.turns.found).lt c.turns.cursor c.in_ok-found.found c.one_class.new.cursor here went in
-    (turned tongue end_no_class c.turns.invariant.0 here went fewer, c.in_ok-found.ensures.text ∙ text)
+    let here : is k.Class (head_kind tongue c.turns.cursor) ≡ true = cc in
+    let one : read one_class (c.args.marks.now, c.turns.found) c.turns.cursor ≡ Ok (c.in-Ok.more, c.one_class.new.cursor)
+    = subst (λ m. read one_class (m, c.turns.found) c.turns.cursor ≡ Ok (c.in-Ok.more, c.one_class.new.cursor)) c.turns.invariant.0 c.in-Ok.ensures.reads in
+    (c.in-Ok.ensures.text ∙ c.turns.invariant.0, sym ((classes_turns c.args.marks.now).on c.turns.found c.in-Ok.more c.turns.cursor c.one_class.new.cursor here one) ∙ c.turns.invariant.1)
 
-pub returns : goal.returns
-unfolding sees classes
-returns c =
-    let gone : is_class (head_kind c.turns.cursor) ≡ false = cc in
-    record { reads = ended tongue c.turns.invariant.0 gone; text = c.turns.invariant.1 }
+pub returns-in-Err-clause-reads : goal.returns-in-Err-clause-reads
+unfolding sees parser classes
+returns-in-Err-clause-reads c =
+    let here : is k.Class (head_kind tongue c.turns.cursor) ≡ true = cc in
+    let one : Fails (read one_class (c.args.marks.now, c.turns.found) c.turns.cursor) c.in-Err.stop
+    = subst (λ m. Fails (read one_class (m, c.turns.found) c.turns.cursor) c.in-Err.stop) c.turns.invariant.0 c.in-Err.ensures.reads in
+    fails_on tongue (is k.Class) (λ x. read one_class (c.args.marks.now, x)) (classes_turns c.args.marks.now) c.turns.found c.turns.cursor (read classes c.args.marks.now c.args.cursor.now) c.in-Err.stop c.turns.invariant.1 here one
+
+pub returns-clause-reads : goal.returns-clause-reads
+unfolding sees parser classes
+returns-clause-reads c =
+    let gone : is k.Class (head_kind tongue c.turns.cursor) ≡ false = cc in
+    sym c.turns.invariant.1 ∙ (classes_turns c.args.marks.now).off c.turns.found c.turns.cursor gone

@@ -1,11 +1,16 @@
-use Rattle.std.proofs.Common.{◌≡◌, false, [], length}
-use Rattle.text_reading.proofs.Loops.{Turns}
-use Rattle.class_tokens.specs.ClassSteps.{tongue, many}
-use Rattle.class_reader.specs.ClassFile.{is_class, one_class}
+use Rattle.std.proofs.Common.{◌≡◌, [], length}
+use Rattle.text_reading.specs.Parsing.{many}
+use Rattle.class_tokens.specs.declared.token.Kind.TheVariants as k
+use Rattle.class_tokens.specs.ClassKinds.{is, is_member_word}
+use Rattle.class_tokens.specs.ClassTongue.{tongue}
+use Rattle.class_reader.specs.ClassTrees.{site, no_members}
+use Rattle.class_reader.specs.ClassGrammar.{one_class, read}
 use Rattle.class_reader.proofs.classes.classes.Given as goal
 
 abbrev pub invariant-turns : goal.invariant-turns
-invariant-turns l = Turns tongue is_class (one_class false (l.initial.marks)) l.found l.cursor (many is_class (one_class false (l.initial.marks)) [] l.initial.cursor) × (l.marks ≡ l.initial.marks)
+invariant-turns l =
+    (l.marks ≡ l.initial.marks)
+    × (many tongue (is k.Class) (λ x. read one_class (l.initial.marks, x)) l.found l.cursor ≡ many tongue (is k.Class) (λ x. read one_class (l.initial.marks, x)) [] l.initial.cursor)
 
 abbrev pub decreases-turns : goal.decreases-turns
 decreases-turns l = length l.cursor

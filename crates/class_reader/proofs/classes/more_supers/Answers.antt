@@ -1,35 +1,32 @@
-use Rattle.std.proofs.Common.{◌≡◌, true, false}
-use Rattle.std.proofs.lemmas.Result.{err_from_is_err_and}
+use Rattle.std.proofs.Common.{◌≡◌, ◌∙◌, true, false, sym}
+use Rattle.text_reading.specs.Tokens.{head_kind}
 use Rattle.text_reading.specs.Parsing.{sees}
-use Rattle.text_reading.proofs.Loops.{ended, fails, turned}
-use Rattle.class_tokens.specs.ClassSteps.{tongue, head_kind}
-use Rattle.class_reader.specs.ClassValues.{is_comma}
-use Rattle.class_reader.specs.ClassFile.{more_supers}
-use Rattle.class_reader.proofs.Lasting.{uses_further_super, end_no_comma}
+use Rattle.text_reading.specs.Phrases.{parser}
+use Rattle.text_reading.proofs.PhraseLoops.{fails_on}
+use Rattle.class_tokens.specs.declared.token.Kind.TheVariants as k
+use Rattle.class_tokens.specs.ClassKinds.{is}
+use Rattle.class_tokens.specs.ClassTongue.{tongue}
+use Rattle.class_reader.specs.ClassGrammar.{read, further_super, more_supers}
+use Rattle.class_reader.proofs.ClassTurns.{supers_turns}
 use Rattle.class_reader.proofs.classes.more_supers.Goals as goal
 
-pub returns-in_err-found : goal.returns-in_err-found
-unfolding sees more_supers
-returns-in_err-found c =
-    let here : is_comma (head_kind c.turns.cursor) ≡ true = cc in
-    let p = err_from_is_err_and c.from_residual.result c.from_residual.ensures.1 in
-    rw (p.1, p.2) (fails tongue c.in_err-found.field-0.0 end_no_comma c.turns.invariant here c.in_err-found.ensures)
-
 pub turns-smaller : goal.turns-smaller
-unfolding sees more_supers
-turns-smaller c =
-    let here : is_comma (head_kind c.turns.cursor) ≡ true = cc in
-    (uses_further_super c.args.home.now c.turns.found).lt c.turns.cursor c.in_ok-found.found c.further_super.new.cursor here c.in_ok-found.ensures
+turns-smaller c = (supers_turns c.args.home.now).shrinks c.turns.found c.in-Ok.more c.turns.cursor c.further_super.new.cursor c.in-Ok.ensures
 
 pub turns-preserved : goal.turns-preserved
-unfolding sees more_supers
+unfolding sees
 turns-preserved c =
-    let here : is_comma (head_kind c.turns.cursor) ≡ true = cc in
-    let fewer = (uses_further_super c.args.home.now c.turns.found).lt c.turns.cursor c.in_ok-found.found c.further_super.new.cursor here c.in_ok-found.ensures in
-    turned tongue end_no_comma c.turns.invariant here c.in_ok-found.ensures fewer
+    let here : is k.Comma (head_kind tongue c.turns.cursor) ≡ true = cc in
+    sym ((supers_turns c.args.home.now).on c.turns.found c.in-Ok.more c.turns.cursor c.further_super.new.cursor here c.in-Ok.ensures) ∙ c.turns.invariant
+
+pub returns-in-Err : goal.returns-in-Err
+unfolding sees parser more_supers
+returns-in-Err c =
+    let here : is k.Comma (head_kind tongue c.turns.cursor) ≡ true = cc in
+    fails_on tongue (is k.Comma) (λ x. read further_super (c.args.home.now, x)) (supers_turns c.args.home.now) c.turns.found c.turns.cursor (read more_supers (c.args.home.now, c.args.found) c.args.cursor.now) c.in-Err.stop c.turns.invariant here c.in-Err.ensures
 
 pub returns : goal.returns
-unfolding sees more_supers
+unfolding sees parser more_supers
 returns c =
-    let gone : is_comma (head_kind c.turns.cursor) ≡ false = cc in
-    ended tongue c.turns.invariant gone
+    let gone : is k.Comma (head_kind tongue c.turns.cursor) ≡ false = cc in
+    sym c.turns.invariant ∙ (supers_turns c.args.home.now).off c.turns.found c.turns.cursor gone

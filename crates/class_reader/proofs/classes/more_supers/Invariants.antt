@@ -1,12 +1,15 @@
-use Rattle.std.proofs.Common.{false, length}
-use Rattle.text_reading.proofs.Loops.{Turns}
-use Rattle.class_tokens.specs.ClassSteps.{tongue, many}
-use Rattle.class_reader.specs.ClassValues.{is_comma}
-use Rattle.class_reader.specs.ClassFile.{further_super}
+use Rattle.std.proofs.Common.{◌≡◌, [], length}
+use Rattle.text_reading.specs.Parsing.{many}
+use Rattle.class_tokens.specs.declared.token.Kind.TheVariants as k
+use Rattle.class_tokens.specs.ClassKinds.{is, is_member_word}
+use Rattle.class_tokens.specs.ClassTongue.{tongue}
+use Rattle.class_reader.specs.ClassTrees.{site, no_members}
+use Rattle.class_reader.specs.ClassGrammar.{further_super, read}
 use Rattle.class_reader.proofs.classes.more_supers.Given as goal
 
 abbrev pub invariant-turns : goal.invariant-turns
-invariant-turns l = Turns tongue is_comma (further_super false l.home) l.found l.cursor (many is_comma (further_super false l.home) l.initial.found l.initial.cursor)
+invariant-turns l =
+    (many tongue (is k.Comma) (λ x. read further_super (l.home, x)) l.found l.cursor ≡ many tongue (is k.Comma) (λ x. read further_super (l.home, x)) l.initial.found l.initial.cursor)
 
 abbrev pub decreases-turns : goal.decreases-turns
 decreases-turns l = length l.cursor

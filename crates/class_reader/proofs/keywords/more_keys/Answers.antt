@@ -1,35 +1,32 @@
-use Rattle.std.proofs.Common.{◌≡◌, true, false}
-use Rattle.std.proofs.lemmas.Result.{err_from_is_err_and}
+use Rattle.std.proofs.Common.{◌≡◌, ◌∙◌, true, false, sym}
+use Rattle.text_reading.specs.Tokens.{head_kind}
 use Rattle.text_reading.specs.Parsing.{sees}
-use Rattle.text_reading.proofs.Loops.{ended, fails, turned}
-use Rattle.class_tokens.specs.ClassSteps.{tongue, head_kind}
-use Rattle.class_reader.specs.ClassValues.{is_comma}
-use Rattle.class_reader.specs.ClassKeywords.{more_keys}
-use Rattle.class_reader.proofs.Lasting.{uses_further_key, end_no_comma}
+use Rattle.text_reading.specs.Phrases.{parser}
+use Rattle.text_reading.proofs.PhraseLoops.{fails_on}
+use Rattle.class_tokens.specs.declared.token.Kind.TheVariants as k
+use Rattle.class_tokens.specs.ClassKinds.{is}
+use Rattle.class_tokens.specs.ClassTongue.{tongue}
+use Rattle.class_reader.specs.ClassGrammar.{read, further_key, more_keys}
+use Rattle.class_reader.proofs.ClassTurns.{keys}
 use Rattle.class_reader.proofs.keywords.more_keys.Goals as goal
 
-pub returns-in_err-given : goal.returns-in_err-given
-unfolding sees more_keys
-returns-in_err-given c =
-    let here : is_comma (head_kind c.turns.cursor) ≡ true = cc in
-    let p = err_from_is_err_and c.from_residual.result c.from_residual.ensures.1 in
-    rw (p.1, p.2) (fails tongue c.in_err-given.field-0.0 end_no_comma c.turns.invariant here c.in_err-given.ensures)
-
 pub turns-smaller : goal.turns-smaller
-unfolding sees more_keys
-turns-smaller c =
-    let here : is_comma (head_kind c.turns.cursor) ≡ true = cc in
-    (uses_further_key c.args.section c.turns.given).lt c.turns.cursor c.in_ok-given.given c.further_key.new.cursor here c.in_ok-given.ensures
+turns-smaller c = (keys c.args.section).shrinks c.turns.given c.in-Ok.more c.turns.cursor c.further_key.new.cursor c.in-Ok.ensures
 
 pub turns-preserved : goal.turns-preserved
-unfolding sees more_keys
+unfolding sees
 turns-preserved c =
-    let here : is_comma (head_kind c.turns.cursor) ≡ true = cc in
-    let fewer = (uses_further_key c.args.section c.turns.given).lt c.turns.cursor c.in_ok-given.given c.further_key.new.cursor here c.in_ok-given.ensures in
-    turned tongue end_no_comma c.turns.invariant here c.in_ok-given.ensures fewer
+    let here : is k.Comma (head_kind tongue c.turns.cursor) ≡ true = cc in
+    sym ((keys c.args.section).on c.turns.given c.in-Ok.more c.turns.cursor c.further_key.new.cursor here c.in-Ok.ensures) ∙ c.turns.invariant
+
+pub returns-in-Err : goal.returns-in-Err
+unfolding sees parser more_keys
+returns-in-Err c =
+    let here : is k.Comma (head_kind tongue c.turns.cursor) ≡ true = cc in
+    fails_on tongue (is k.Comma) (λ x. read further_key (c.args.section, x)) (keys c.args.section) c.turns.given c.turns.cursor (read more_keys (c.args.section, c.args.given) c.args.cursor.now) c.in-Err.stop c.turns.invariant here c.in-Err.ensures
 
 pub returns : goal.returns
-unfolding sees more_keys
+unfolding sees parser more_keys
 returns c =
-    let gone : is_comma (head_kind c.turns.cursor) ≡ false = cc in
-    ended tongue c.turns.invariant gone
+    let gone : is k.Comma (head_kind tongue c.turns.cursor) ≡ false = cc in
+    sym c.turns.invariant ∙ (keys c.args.section).off c.turns.given c.turns.cursor gone

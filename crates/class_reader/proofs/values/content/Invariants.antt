@@ -1,5 +1,5 @@
 use Rattle.std.proofs.Common.{◌≡◌, ◌++◌, length}
-use Rattle.class_reader.specs.ClassValues.{content_from, content}
+use Rattle.class_reader.specs.ClassLiterals.{content_from, content}
 use Rattle.class_reader.proofs.values.content.Given as goal
 
 abbrev pub invariant-bytes : goal.invariant-bytes

@@ -1,0 +1,15 @@
+use Rattle.std.proofs.Common.{◌≡◌, [], length}
+use Rattle.text_reading.specs.Parsing.{many}
+use Rattle.class_tokens.specs.declared.token.Kind.TheVariants as k
+use Rattle.class_tokens.specs.ClassKinds.{is, is_member_word}
+use Rattle.class_tokens.specs.ClassTongue.{tongue}
+use Rattle.class_reader.specs.ClassTrees.{site, no_members}
+use Rattle.class_reader.specs.ClassGrammar.{further_bound, read}
+use Rattle.class_reader.proofs.properties.more_bounds.Given as goal
+
+abbrev pub invariant-turns : goal.invariant-turns
+invariant-turns l =
+    (many tongue (is k.Comma) (λ x. read further_bound x) l.found l.cursor ≡ many tongue (is k.Comma) (λ x. read further_bound x) l.initial.found l.initial.cursor)
+
+abbrev pub decreases-turns : goal.decreases-turns
+decreases-turns l = length l.cursor

@@ -1,5 +1,0 @@
-use Rattle.std.proofs.Common.{length}
-use Rattle.class_tokens.proofs.lex.+same_letters.Given as goal
-
-abbrev pub decreases-same_letters : goal.decreases-same_letters
-decreases-same_letters l = length l.word.now
