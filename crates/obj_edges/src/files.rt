@@ -20,12 +20,12 @@ pub struct MemFiles {
 fn file_in<'a>(files: &'a [(Text, Text)], name: &[u8]) -> Option<&'a Text>
     ensures { option_copied result ≡ contents_in files.now name.now }
 {
-    let (file, others) = files.split_first()?;
-    if file.0.as_slice() == name {
-        Some(&file.1)
-    } else {
-        file_in(others, name)
+    for file in files {
+        if file.0.as_slice() == name {
+            return Some(&file.1);
+        }
     }
+    None
 }
 
 fn note(alloc: Global, asked: &mut Items<Text>, name: &str) -> Result<(), NoMemory>

@@ -1,5 +1,0 @@
-use Rattle.std.proofs.Common.{length}
-use Rattle.obj_edges.proofs.files.+file_in.Given as goal
-
-abbrev pub decreases-file_in : goal.decreases-file_in
-decreases-file_in l = length l.files.now
