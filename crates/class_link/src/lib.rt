@@ -5,8 +5,6 @@ mod error;
 mod late;
 mod linking;
 mod passes;
-#[cfg(test)]
-mod tests;
 
 pub use error::{LinkError, LinkWhy};
 pub use linking::link;

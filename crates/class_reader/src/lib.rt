@@ -15,6 +15,3 @@ mod values;
 pub use class_tokens::ClassWhy;
 pub use error::ReadError;
 pub use reading::read_classes;
-
-#[cfg(test)]
-mod tests;
