@@ -1,0 +1,22 @@
+//! The objects of one process in memory, with counted references: an object is live as long as a
+//! slot of a live object or a hold outside the table names it.
+#![tactic(auto)]
+
+mod counts;
+mod fill;
+mod items;
+mod laws;
+mod members;
+mod obj;
+mod oref;
+mod release;
+mod search;
+mod slot;
+mod table;
+
+pub use fill::Fill;
+pub use laws::{drops_have_one_end, holds_outside_are_accounted_for, what_holds_itself_up_stays};
+pub use obj::{Freed, Obj, Released};
+pub use oref::{Held, Oref};
+pub use slot::{Orefs, Slot, SlotPairs, Slots};
+pub use table::Table;

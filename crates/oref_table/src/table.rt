@@ -1,0 +1,272 @@
+ghost use Rattle.std.specs.Prelude.{◌≡◌, ◌≢◌, ◌+◌, ◌<◌, ◌≤◌, ◌^◌, ◌↔◌, [], ◌∷◌, length, IfOk, OnOk, IfErr, OnErr, IsErr, IfSome, IfNone, IsSomeAnd};
+ghost use Rattle.std.specs.List.{AllByRecursion};
+ghost use Rattle.std.specs.Option.{option_copied, option_map};
+ghost use Rattle.obj_kinds.specs.declared.name.ClassName.{ClassName};
+ghost use Rattle.obj_kinds.specs.declared.id.Id.{Id};
+ghost use Rattle.obj_kinds.specs.declared.memory.Lack.TheVariants.{Count};
+ghost use Rattle.oref_table.specs.Refs.{refs_in};
+ghost use Rattle.oref_table.specs.Sound.{IsFree, HasKey, IsSound};
+ghost use Rattle.oref_table.specs.Kept.{as_kept, holders_of};
+ghost use Rattle.oref_table.specs.Memory.{outside_of, loosed, edited, tighten, with_id, with_level, with_mark, with_object, fresh, holders, object_of, IsLive};
+ghost use Rattle.oref_table.specs.Dropping.{dropped};
+ghost use Rattle.oref_table.specs.Filling.{InsertsItem, DropsMember, HasItems, HasMember, HasSlot, IsHeldFor, slot_filled};
+ghost use Rattle.oref_table.specs.declared.fill.Fill.TheVariants.{Nothing};
+
+use crate::counts::{one_more, place_of};
+use crate::fill::{Fill, fill_of, slot_of};
+use crate::items::insert_at;
+use crate::members::drop_at;
+use crate::obj::{Entry, Obj, Released};
+use crate::oref::{Held, Oref};
+use crate::release::{give_back, make_room, refill, release};
+use crate::search::find_key;
+use crate::slot::Slots;
+use obj_kinds::{ClassName, Id, Lack, NoMemory};
+use std::alloc::Global;
+use std::marker::Model;
+
+/// The objects of one process. Contracts see it as a memory: the live objects with how many holds
+/// outside name each, the last number that was given, and what is told of those released.
+#[derive(Drop)]
+pub struct Table {
+    entries: Vec<Entry>,
+    last: u64,
+    released: Released,
+}
+
+impl Model for Table {
+    ghost use Rattle.std.specs.Prelude.{vec_capacity};
+    ghost use Rattle.oref_table.specs.Memory.{Memory};
+    ghost use Rattle.oref_table.specs.MemoryCode.{memory_code};
+    ghost use Rattle.oref_table.specs.Stands.{memory_of, IsTable};
+
+    ghost Value = { Memory };
+
+    ghost coded = { memory_code };
+
+    ghost view = { λ t. memory_of t.entries.items t.last t.released.items };
+
+    ghost invariant = { λ t. IsTable t.entries.items t.last t.released.items (vec_capacity t.released) };
+}
+
+impl Table {
+    /// The table without objects. It takes no memory yet.
+    pub fn new(alloc: Global) -> Table
+        ensures { result ≡ record { objects = []; last = 0; freed = [] } }
+    {
+        Table {
+            entries: Vec::new(alloc),
+            last: 0,
+            released: Vec::new(alloc),
+        }
+    }
+
+    /// A new object with the next number, no mark and one hold outside. The room to tell of its release is taken
+    /// here. `Count` where no number is left below 2^64, else `Memory` for want of memory; the table is then as before.
+    pub fn make(
+        &mut self,
+        class: ClassName,
+        extent: Option<ClassName>,
+        id: Option<Id>,
+        level: u8,
+        slots: Slots,
+    ) -> Result<Held, Lack>
+        requires free { (e : ClassName) (i : Id) → extent ≡ Some e → id ≡ Some i → IsFree e i self.old.objects }
+        requires no_refs { refs_in slots ≡ [] }
+        ensures ok { OnOk result (self.new ≡ with_object self.old (fresh self.old class extent id level slots)) }
+        ensures held { IfOk result (λ h. h.number ≡ self.old.last + 1) }
+        ensures outside { IfOk result (λ h. outside_of self.new h.number ≡ 1) }
+        ensures err { OnErr result (self.new ≡ self.old) }
+        ensures count { (result ≡ Err Count) ↔ (2 ^ 64 ≤ self.old.last + 1) }
+    {
+        let number = self.last.checked_add(1).ok_or(Lack::Count)?;
+        make_room(&mut self.entries, &mut self.released)?;
+        self.last = number;
+        self.entries.push_reserved(Entry {
+            number,
+            obj: Obj {
+                class,
+                extent,
+                id,
+                level,
+                modified: false,
+                slots,
+                count: 1,
+            },
+        });
+        Ok(Held { number })
+    }
+
+    /// One hold more of a live object. It takes no memory: `Count` where the object has 2^64 - 1 holders already.
+    pub fn hold(&mut self, oref: Oref) -> Result<Held, Lack>
+        requires { IsLive self.old oref.0 }
+        ensures ok { OnOk result (self.new ≡ edited self.old oref.0 tighten) }
+        ensures held { IfOk result (λ h. h.number ≡ oref.0) }
+        ensures outside { IfOk result (λ h. outside_of self.new h.number ≡ outside_of self.old h.number + 1) }
+        ensures err { IfErr result (λ e. (e ≡ Count) × (self.new ≡ self.old)) }
+        ensures count { IsErr result ↔ (2 ^ 64 ≤ holders_of self.old oref.0 + 1) }
+    {
+        let place = place_of(self.entries.as_slice(), oref.0).unwrap();
+        let count = one_more(&self.entries[place])?;
+        self.entries[place].obj.count = count;
+        Ok(Held { number: oref.0 })
+    }
+
+    /// Gives the hold back, and releases all that nothing holds from then on. It takes no memory.
+    pub fn let_go(&mut self, held: Held)
+        requires { 0 < outside_of self.old held.number }
+        ensures { self.new ≡ dropped (loosed self.old (held.number ∷ [])) }
+    {
+        let Held { number } = held;
+        give_back(&mut self.entries, number);
+        release(&mut self.entries, &mut self.released);
+    }
+
+    /// Passes the hold to a place of the caller's own, as a variable. It takes no memory.
+    pub fn park(&mut self, held: Held) -> Oref
+        requires { 0 < outside_of self.old held.number }
+        ensures same { self.new ≡ self.old }
+        ensures oref { result.0 ≡ held.number }
+    {
+        let Held { number } = held;
+        Oref(number)
+    }
+
+    /// Takes the hold from there. It takes no memory.
+    pub fn unpark(&mut self, oref: Oref) -> Held
+        requires { 0 < outside_of self.old oref.0 }
+        ensures same { self.new ≡ self.old }
+        ensures held { result.number ≡ oref.0 }
+    {
+        Held { number: oref.0 }
+    }
+
+    /// Fills the slot, and releases all that nothing holds from then on. It takes no memory.
+    pub fn fill_slot(&mut self, oref: Oref, slot: u32, with: Fill)
+        requires live { IsLive self.old oref.0 }
+        requires there { HasSlot self.old oref.0 slot }
+        requires held { IsHeldFor self.old with }
+        ensures { self.new ≡ slot_filled self.old oref.0 slot with }
+    {
+        let place = place_of(self.entries.as_slice(), oref.0).unwrap();
+        refill(&mut self.entries, place, slot as usize, slot_of(with));
+        release(&mut self.entries, &mut self.released);
+    }
+
+    /// Puts an item before the one at the place in the list in the slot, counted from 0, or at its end where the
+    /// place is the number of items. For want of memory it hands back what was to stand there, and the table is as
+    /// before.
+    pub fn insert_item(
+        &mut self,
+        oref: Oref,
+        slot: u32,
+        before: u64,
+        with: Fill,
+    ) -> Result<(), (Fill, NoMemory)>
+        requires live { IsLive self.old oref.0 }
+        requires there { HasItems self.old oref.0 slot before }
+        requires held { IsHeldFor self.old with }
+        requires filling { with ≢ Nothing }
+        ensures ok { OnOk result (InsertsItem self.old self.new oref.0 slot before with) }
+        ensures err { OnErr result (self.new ≡ self.old) }
+        ensures back { IfErr result (λ e. e.0 ≡ with) }
+    {
+        let place = place_of(self.entries.as_slice(), oref.0).unwrap();
+        match insert_at(
+            &mut self.entries,
+            place,
+            slot as usize,
+            before as usize,
+            slot_of(with),
+        ) {
+            None => Ok(()),
+            Some(item) => Err((fill_of(item), NoMemory)),
+        }
+    }
+
+    /// Takes the member out of the slot, and releases all that nothing holds from then on. It takes no
+    /// memory.
+    pub fn drop_member(&mut self, oref: Oref, slot: u32, member: Oref)
+        requires live { IsLive self.old oref.0 }
+        requires there { HasMember self.old oref.0 slot member.0 }
+        ensures { DropsMember self.old self.new oref.0 slot member.0 }
+    {
+        let place = place_of(self.entries.as_slice(), oref.0).unwrap();
+        drop_at(&mut self.entries, place, slot as usize, member.0);
+        give_back(&mut self.entries, member.0);
+        release(&mut self.entries, &mut self.released);
+    }
+
+    /// The live object with this id in this extent. It takes no memory.
+    pub fn by_id(&self, extent: &ClassName, id: Id) -> Option<Oref>
+        ensures found { IfSome result (λ o. IsSomeAnd (object_of o.0 self.now.objects) (HasKey extent.now id)) }
+        ensures none { IfNone result (IsFree extent.now id self.now.objects) }
+    {
+        match find_key(self.entries.as_slice(), extent, id) {
+            None => None,
+            Some(number) => Some(Oref(number)),
+        }
+    }
+
+    /// The live object. It takes no memory.
+    pub fn get(&self, oref: Oref) -> Option<&Obj>
+        ensures { option_copied result ≡ option_map (as_kept self.now.objects) (object_of oref.0 self.now.objects) }
+    {
+        match place_of(self.entries.as_slice(), oref.0) {
+            None => None,
+            Some(place) => Some(&self.entries[place].obj),
+        }
+    }
+
+    /// Gives the object an id in its extent, which no other live object there has. It takes no memory.
+    pub fn set_id(&mut self, oref: Oref, id: Id)
+        requires live { IsLive self.old oref.0 }
+        requires free { (e : ClassName) → IfSome (object_of oref.0 self.old.objects) (λ o. o.extent ≡ Some e → IsFree e id self.old.objects) }
+        ensures { self.new ≡ edited self.old oref.0 (with_id id) }
+    {
+        let place = place_of(self.entries.as_slice(), oref.0).unwrap();
+        self.entries[place].obj.id = Some(id);
+    }
+
+    /// Notes the level that the object is opened at. It takes no memory.
+    pub fn set_level(&mut self, oref: Oref, level: u8)
+        requires { IsLive self.old oref.0 }
+        ensures { self.new ≡ edited self.old oref.0 (with_level level) }
+    {
+        let place = place_of(self.entries.as_slice(), oref.0).unwrap();
+        self.entries[place].obj.level = level;
+    }
+
+    /// Marks the object as modified, or takes the mark away. It takes no memory.
+    pub fn set_modified(&mut self, oref: Oref, modified: bool)
+        requires { IsLive self.old oref.0 }
+        ensures { self.new ≡ edited self.old oref.0 (with_mark modified) }
+    {
+        let place = place_of(self.entries.as_slice(), oref.0).unwrap();
+        self.entries[place].obj.modified = modified;
+    }
+
+    /// How many objects are live. It takes no memory.
+    pub fn live(&self) -> usize
+        ensures count { result ≡ length self.now.objects }
+        ensures sound { IsSound self.now }
+        ensures held { AllByRecursion (λ o. 0 < holders self.now.objects o) self.now.objects }
+    {
+        self.entries.len()
+    }
+
+    /// What is told of the objects that were released since it was cleared, in this order. It takes
+    /// no memory.
+    pub fn released(&self) -> &Released
+        ensures { result.now.items ≡ self.now.freed }
+    {
+        &self.released
+    }
+
+    /// Forgets what is told of them; the room stays. It takes no memory.
+    pub fn clear_released(&mut self)
+        ensures { self.new ≡ record self.old { freed = [] } }
+    {
+        self.released.clear();
+    }
+}

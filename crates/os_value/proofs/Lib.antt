@@ -1,0 +1,6 @@
+pub mod RestLaws
+pub mod EqualLaws
+pub mod FollowLaws
+pub mod FindLaws
+pub mod PartLaws
+pub mod CharLaws

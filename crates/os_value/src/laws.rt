@@ -1,0 +1,36 @@
+ghost use Rattle.std.specs.Prelude.{◌≡◌, ◌≢◌, ◌↔◌, ℕ, suc, ◌+◌, ◌<◌, ◌≤◌, ℤ, pos, ◌+ℤ◌, ◌-ℤ◌, ◌*ℤ◌, ◌≤ℤ◌, ◌<ℤ◌, int_div, unsigned_abs, true, false, List, ◌++◌, length, Ok};
+ghost use Rattle.obj_kinds.specs.declared.value.Value.{Value};
+ghost use Rattle.os_value.specs.Numbers.{floor, rest};
+ghost use Rattle.os_value.specs.Comparisons.{is_list, equal, is_behind};
+ghost use Rattle.os_value.specs.Places.{part};
+
+/// A number is the floor of its quotient times the divisor and the rest of `#`, which is smaller
+/// than the divisor and has its sign or is 0. A quotient that is cut leaves less than the divisor
+/// too, with the sign of the number or 0.
+pub fn quotients_and_rests()
+    ensures parts { (a b : ℤ) → floor a b *ℤ b +ℤ rest a b ≡ a }
+    ensures above { (a b : ℤ) → pos 0 <ℤ b → (pos 0 ≤ℤ rest a b) × (rest a b <ℤ b) }
+    ensures below { (a b : ℤ) → b <ℤ pos 0 → (b <ℤ rest a b) × (rest a b ≤ℤ pos 0) }
+    ensures cut { (a b : ℤ) → 0 < unsigned_abs b → unsigned_abs (a -ℤ int_div a b *ℤ b) < unsigned_abs b }
+    ensures cut_above { (a b : ℤ) → pos 0 ≤ℤ a → pos 0 ≤ℤ (a -ℤ int_div a b *ℤ b) }
+    ensures cut_below { (a b : ℤ) → a ≤ℤ pos 0 → (a -ℤ int_div a b *ℤ b) ≤ℤ pos 0 }
+{}
+
+/// Two texts, or two lists, are told equal exactly where they are.
+pub fn equal_values()
+    ensures { (a b : Value) → is_list a ≡ is_list b → (equal a b ≡ Ok true) ↔ (a ≡ b) }
+{}
+
+/// `]` is a strict order of texts: none is behind itself, what is behind a text is behind all
+/// before that one, and of two texts one is behind the other.
+pub fn texts_in_order()
+    ensures not_itself { (s : List ℕ) → is_behind s s ≡ false }
+    ensures behind_both { (r s t : List ℕ) → is_behind r s ≡ true → is_behind s t ≡ true → is_behind r t ≡ true }
+    ensures one_of_two { (s t : List ℕ) → s ≢ t → is_behind s t ≡ false → is_behind t s ≡ true }
+{}
+
+/// `$EXTRACT` of all places is the text, and that of places beside one another joins up.
+pub fn parts_of_texts()
+    ensures all { (text : List ℕ) → part (pos 1) (pos (length text)) text ≡ text }
+    ensures beside { (text : List ℕ) (i j k : ℕ) → i ≤ j + 1 → j ≤ k → part (pos i) (pos j) text ++ part (pos (suc j)) (pos k) text ≡ part (pos i) (pos k) text }
+{}
