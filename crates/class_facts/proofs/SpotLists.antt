@@ -2,9 +2,9 @@
 use Rattle.std.proofs.Common.{drop, filter_map, get_or, Option, ◌≡◌, ◌≢◌, ℕ, zero, suc, ◌+◌, ◌<◌, Bool, true, false, cond, not, ◌||◌, List, [], ◌∷◌, ◌++◌, take, fold, length, slice_get, slice_set, Some, None, is_some, option_to_list, append-nil, refl, sym, ap, ◌∙◌, arith}
 use Rattle.std.specs.List.{cons_option}
 use Rattle.std.proofs.lemmas.List.{append_assoc, at_drop_more}
-use lib.Pointwise.{bytes_decides}
 use Rattle.indexmap.specs.IndexMap.{insert_entry}
 use Rattle.schema_kinds.specs.Hierarchy.{same_text}
+use Rattle.obj_kinds.proofs.TextLaws.{same_text-is}
 use Rattle.class_facts.specs.declared.spots.Spot.{Spot}
 use Rattle.class_facts.specs.Trees.{spots_in}
 use Rattle.class_facts.specs.Spots.{spot_of, add_spot, add_spots, put_spot, has_spot_of, fresh_spots, gather_spots, HaveSameNames}
@@ -87,9 +87,6 @@ pub no-spot : (es : List (List ℕ × Spot)) (i : ℕ) (xs : List Spot) → None
 no-spot es i xs h = sym (append-nil xs) ∙ ap (λ o. xs ++ option_to_list o) (no-spot-at es i h)
 
 -- the names in a table and in a list beside it
-text-is : (a b : List ℕ) → same_text a b ≡ true → a ≡ b
-text-is a b h = (bytes_decides a b).0 h
-
 has-append : (n : List ℕ) (xs ys : List (List ℕ × Spot)) → has_spot_of n (xs ++ ys) ≡ has_spot_of n xs || has_spot_of n ys
 has-append n [] ys = refl
 has-append n (x ∷ xs) ys = by (same_text n x.0) (has-append n xs ys)
@@ -111,7 +108,7 @@ has-add : (n : List ℕ) (spots : List (List ℕ × Spot)) (e : List ℕ × Spot
 has-add n spots e = by (has_spot_of e.0 spots) refl
   where
     there : has_spot_of e.0 spots ≡ true → (b : Bool) → same_text n e.0 ≡ b → has_spot_of n spots ≡ has_spot_of n spots || is_some (cond b (Some e.1) None)
-    there is true at = let same = text-is n e.0 at in let h : has_spot_of n spots ≡ true = ap (λ m. has_spot_of m spots) same ∙ is in rw h refl
+    there is true at = let same = same_text-is n e.0 at in let h : has_spot_of n spots ≡ true = ap (λ m. has_spot_of m spots) same ∙ is in rw h refl
     there is false at = or-false (has_spot_of n spots)
 
     by : (b : Bool) → has_spot_of e.0 spots ≡ b → has_spot_of n (cond b spots (spots ++ e ∷ [])) ≡ has_spot_of n spots || has_spot_of n (e ∷ [])
@@ -131,7 +128,7 @@ has-fresh n spots (e ∷ es) off = by (has-fresh n spots es off) (has_spot_of e.
   where
     by : has_spot_of n (fresh_spots spots es) ≡ has_spot_of n es → (b : Bool) → has_spot_of e.0 spots ≡ b → (t : Bool) → same_text n e.0 ≡ t
         → has_spot_of n (cond (not b) (e ∷ fresh_spots spots es) (fresh_spots spots es)) ≡ is_some (cond t (Some e.1) (spot_of n es))
-    by rest true is true at = let same = text-is n e.0 at in let h : has_spot_of n spots ≡ true = ap (λ m. has_spot_of m spots) same ∙ is in cc
+    by rest true is true at = let same = same_text-is n e.0 at in let h : has_spot_of n spots ≡ true = ap (λ m. has_spot_of m spots) same ∙ is in cc
     by rest true is false at = rest
     by rest false is true at = ap (λ t. is_some (cond t (Some e.1) (spot_of n (fresh_spots spots es)))) at
     by rest false is false at = ap (λ t. is_some (cond t (Some e.1) (spot_of n (fresh_spots spots es)))) at ∙ rest

@@ -17,6 +17,3 @@ pub use mode::Mode;
 pub use token::{
     Kind, is_block, is_member_word, is_name, is_number, is_own_word, is_text, is_word, same_kind,
 };
-
-#[cfg(test)]
-mod tests;

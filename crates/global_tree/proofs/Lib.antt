@@ -1,5 +1,4 @@
 pub mod MapLaws
-pub mod Sorted
 pub mod Parts
 pub mod Seen
 pub mod StepLaws

@@ -18,7 +18,7 @@ use Rattle.global_tree.specs.FirstStep.{first_step, step_or}
 use Rattle.global_tree.specs.Places.{part, part_by, value_in}
 use Rattle.global_tree.proofs.MapLaws.{one_key}
 use Rattle.global_tree.proofs.Parts.{first, second}
-use Rattle.global_tree.proofs.Sorted.{stays}
+use Rattle.obj_kinds.proofs.Sorted.{stays}
 use Rattle.global_tree.proofs.Parted.{parted_by}
 use Rattle.global_tree.proofs.StepLaws.{lesser, steps_rise, steps_run, covers_step, step_covers, beyond_rises}
 

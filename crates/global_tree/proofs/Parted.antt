@@ -7,7 +7,7 @@ use Rattle.obj_kinds.specs.declared.node.Node.{Node}
 use Rattle.obj_kinds.specs.Order.{node_cmp}
 use Rattle.obj_kinds.proofs.OrderLemmas.{node_total}
 use Rattle.global_tree.proofs.Parts.{first, second}
-use Rattle.global_tree.proofs.Sorted.{below_each}
+use Rattle.obj_kinds.proofs.Sorted.{below_each}
 
 pub parted_by : {X : Type 0} (p : Node → Bool) → ((a b : Node) → node_cmp a b ≡ Less → p b ≡ true → p a ≡ true) → (es : List (Node × X)) → IsTrue (is_sorted node_cmp es) → IsPartitionedBy (λ e. p e.0) es
 parted_by p falls [] h i j d le lt is = absurd (omega arith)

@@ -10,7 +10,7 @@ use Rattle.std.specs.FinMap.Entries.{below_all, find-put}
 use Rattle.global_tree.specs.Maps.{placed}
 use Rattle.global_tree.specs.Places.{part, part_by}
 use Rattle.global_tree.proofs.MapLaws.{get-placed, one_key}
-use Rattle.global_tree.proofs.Sorted.{get_sorted, sorted_put}
+use Rattle.obj_kinds.proofs.Sorted.{get_sorted, sorted_put}
 
 pub first : (a b : Bool) → IsTrue (a && b) → IsTrue a
 first true b h = refl

@@ -13,11 +13,11 @@ use Rattle.global_tree.specs.declared.place.Place.{Place}
 use Rattle.global_tree.specs.Maps.{placed}
 use Rattle.global_tree.specs.Contents.{Contents, Globals, Pins, pins_of, counted, pinned, unpinned}
 use Rattle.global_tree.specs.Places.{contents, value_in, pins_in, part}
-use Rattle.global_tree.specs.Search.{IsHit, IsGap}
+use Rattle.obj_kinds.specs.Search.{IsHit, IsGap}
 use Rattle.global_tree.proofs.MapLaws.{get-placed, one_key}
 use Rattle.global_tree.proofs.Parts.{get-part, part-put, sorted-part, part-remove}
 use Rattle.std.specs.List.{insert, remove}
-use Rattle.global_tree.proofs.Sorted.{find_hit, find_gap, Edit, hit_edit, gap_edit, from_sorted-nil, entries_sorted_list}
+use Rattle.obj_kinds.proofs.Sorted.{find_hit, find_gap, Edit, hit_edit, gap_edit, from_sorted-nil, entries_sorted_list}
 
 abbrev pub Places : Type 0
 Places = List (Node × Place)

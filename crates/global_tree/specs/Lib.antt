@@ -1,7 +1,6 @@
 pub mod Maps
 pub mod Contents
 pub mod ContentsCode
-pub mod Search
 pub mod Below
 pub mod Places
 pub mod FirstStep

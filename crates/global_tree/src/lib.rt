@@ -12,6 +12,3 @@ mod tree;
 pub use run::Pairs;
 pub use search::search_node;
 pub use tree::Tree;
-
-#[cfg(test)]
-mod tests;

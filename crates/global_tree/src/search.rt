@@ -1,7 +1,7 @@
 ghost use Rattle.std.specs.Prelude.{◌≡◌, IsTrue, IfOk, IfErr};
 ghost use Rattle.obj_kinds.specs.Order.{node_cmp};
 ghost use Rattle.std.specs.FinMap.{is_sorted};
-ghost use Rattle.global_tree.specs.Search.{IsHit, IsGap};
+ghost use Rattle.obj_kinds.specs.Search.{IsHit, IsGap};
 
 use obj_kinds::Node;
 

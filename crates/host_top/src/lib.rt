@@ -14,6 +14,3 @@ pub use obj_edges::{Device, FileError, Files, MemDevice, MemFiles, MemSink, Put,
 pub use refusal::Refusal;
 pub use top::{Outcome, step_main};
 pub use verdict::Verdict;
-
-#[cfg(test)]
-mod tests;

@@ -12,9 +12,9 @@ mod words;
 
 use crate::ids::{answer_id, answer_numbers, answer_order};
 use crate::names::{answer_cause, answer_error};
-use crate::nodes::{answer_name, answer_node, answer_rise};
+use crate::nodes::{answer_copy, answer_name, answer_node, answer_print, answer_rise};
 use crate::ops::{answer_op, answer_reply};
-use crate::subs::{answer_byte, answer_num, answer_str, answer_sub};
+use crate::subs::{answer_byte, answer_leading, answer_num, answer_quote, answer_str, answer_sub};
 use crate::values::{answer_deep, answer_list, answer_same, answer_text};
 use crate::words::{Word, word_of};
 use obj_kinds::{NoMemory, Text};
@@ -43,6 +43,10 @@ fn answer(alloc: Global, row: &[u8]) -> Result<Text, NoMemory> {
         Word::Reply => answer_reply(alloc, rest),
         Word::Error => answer_error(alloc, rest),
         Word::Cause => answer_cause(alloc, rest),
+        Word::Leading => answer_leading(alloc, rest),
+        Word::Print => answer_print(alloc, rest),
+        Word::Quote => answer_quote(alloc, rest),
+        Word::Copy => answer_copy(alloc, rest),
         Word::Other => Text::from_slice(alloc, b"no such row"),
     }
 }

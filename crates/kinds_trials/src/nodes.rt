@@ -1,7 +1,7 @@
 use crate::words::{legal_text, number_in, split_blank, text_in};
 use obj_kinds::{
-    NoMemory, Node, Nodes, Pairs, Sub, SubError, Subs, Text, are_rising, is_global_name,
-    number_value,
+    ClassName, NoMemory, Node, Nodes, Pairs, Sub, SubError, Subs, Text, Value, Values, are_rising,
+    copy_nodes, is_global_name, node_text, number_value,
 };
 use std::alloc::Global;
 
@@ -63,4 +63,43 @@ pub fn answer_rise(alloc: Global, rest: &[u8]) -> Result<Text, NoMemory> {
     nodes.push((one_sub(alloc, second)?, number_value(alloc, 2)?))?;
     let node = one_sub(alloc, second)?;
     found(alloc, nodes, &node)
+}
+
+/// The text of the node of a global and its subscripts.
+pub fn answer_print(alloc: Global, rest: &[u8]) -> Result<Text, NoMemory> {
+    let (global, subs) = split_blank(rest);
+    let global = text_in(alloc, global)?;
+    let mut list = Subs::new(alloc);
+    for sub in subs.split(|byte| *byte == b' ') {
+        if !sub.is_empty() {
+            list.push(sub_in(alloc, &text_in(alloc, sub)?)?)?;
+        }
+    }
+    node_text(alloc, &Node { global, subs: list })
+}
+
+fn list_of(alloc: Global, text: &Text) -> Result<Value, NoMemory> {
+    let mut items = Values::new(alloc);
+    items.push(Value::Str(text.copy(alloc)?))?;
+    Ok(Value::List(items))
+}
+
+fn is_copied(alloc: Global, text: &Text) -> Result<bool, NoMemory> {
+    let value = list_of(alloc, text)?;
+    let mut nodes = Nodes::new(alloc);
+    nodes.push((one_sub(alloc, b"x")?, value.copy(alloc)?))?;
+    let copied = copy_nodes(alloc, nodes.as_slice())?;
+    match copied.as_slice() {
+        [(node, stored)] => Ok(stored.is_same(&value) && *node == one_sub(alloc, b"x")?),
+        _ => Ok(false),
+    }
+}
+
+/// Whether copies of a list of one text, of a node and of a name of a class are what they are copied from.
+pub fn answer_copy(alloc: Global, rest: &[u8]) -> Result<Text, NoMemory> {
+    let text = text_in(alloc, rest)?;
+    let name = ClassName(text.copy(alloc)?);
+    let is_same = name.copy(alloc)? == name && is_copied(alloc, &text)?;
+    let answer: &[u8] = if is_same { b"the same" } else { b"another" };
+    Text::from_slice(alloc, answer)
 }

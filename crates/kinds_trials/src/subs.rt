@@ -1,5 +1,6 @@
 use crate::words::{filled, legal_text, number_in, signed_in, text_in};
-use obj_kinds::{NoMemory, Sub, SubError, Text};
+use itoa::Buffer;
+use obj_kinds::{NoMemory, Sub, SubError, Text, number_of, push_quoted};
 use std::alloc::Global;
 
 fn said(alloc: Global, kind: &[u8], is_legal: bool) -> Result<Text, NoMemory> {
@@ -44,4 +45,24 @@ pub fn answer_str(alloc: Global, rest: &[u8]) -> Result<Text, NoMemory> {
 pub fn answer_num(alloc: Global, rest: &[u8]) -> Result<Text, NoMemory> {
     let sub = Sub::Num(signed_in(rest));
     legal_text(alloc, sub.is_legal())
+}
+
+/// The number that a text counts as.
+pub fn answer_leading(alloc: Global, rest: &[u8]) -> Result<Text, NoMemory> {
+    let text = text_in(alloc, rest)?;
+    match number_of(text.as_slice()) {
+        Ok(number) => {
+            let mut buffer = Buffer::new();
+            Text::from_slice(alloc, buffer.format(number).as_bytes())
+        }
+        Err(_) => Text::from_slice(alloc, b"past 18 digits"),
+    }
+}
+
+/// A text as a dump writes it.
+pub fn answer_quote(alloc: Global, rest: &[u8]) -> Result<Text, NoMemory> {
+    let text = text_in(alloc, rest)?;
+    let mut quoted = Text::new(alloc);
+    push_quoted(&mut quoted, text.as_slice())?;
+    Ok(quoted)
 }

@@ -22,11 +22,15 @@ pub enum Word {
     Reply,
     Error,
     Cause,
+    Leading,
+    Print,
+    Quote,
+    Copy,
     Other,
 }
 
 /// The words of rows.
-const WORDS: [(&str, Word); 18] = [
+const WORDS: [(&str, Word); 22] = [
     ("sub", Word::Sub),
     ("str", Word::Str),
     ("num", Word::Num),
@@ -45,6 +49,10 @@ const WORDS: [(&str, Word); 18] = [
     ("reply", Word::Reply),
     ("error", Word::Error),
     ("cause", Word::Cause),
+    ("leading", Word::Leading),
+    ("print", Word::Print),
+    ("quote", Word::Quote),
+    ("copy", Word::Copy),
 ];
 
 /// What stands before the first blank, and what stands behind it.

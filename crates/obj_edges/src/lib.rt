@@ -11,6 +11,3 @@ pub use edges::{Device, FileError, Files, MAX_FILE_LEN, Put, Sink};
 pub use files::MemFiles;
 pub use host::{FileDevice, HostFiles, StdSink};
 pub use memory::{MemDevice, MemSink};
-
-#[cfg(test)]
-mod tests;

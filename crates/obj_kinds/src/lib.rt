@@ -33,6 +33,3 @@ pub use sub::{Sub, SubError, Subs};
 pub use text::{Text, are_ascii};
 pub use value::{Nodes, Value, Values, copy_nodes, copy_values, number_value};
 pub use whole::{TOO_LARGE, is_whole, whole_number};
-
-#[cfg(test)]
-mod tests;

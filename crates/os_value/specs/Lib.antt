@@ -6,3 +6,4 @@ pub mod Comparisons
 pub mod Places
 pub mod Texts
 pub mod Lists
+pub mod Pieces

@@ -14,3 +14,4 @@ pub mod OpenLaws
 pub mod StoreLaws
 pub mod LedgerLaws
 pub mod WithinLaws
+pub mod PartLaws

@@ -5,7 +5,7 @@ use Rattle.std.proofs.lemmas.List.{take_more}
 use Rattle.std.proofs.lemmas.List.Sums.{sum_by-append}
 use Rattle.std.specs.List.{sum_by, list_all}
 use Rattle.std.specs.Ordering.{eq_by_cmp, is_eq, is_lt}
-use Rattle.std.specs.FinMap.{get, insert, empty, find, from_entries, from_entries_push, is_sorted, get-empty, get-insert, get-from_entries, nat_cmp-IsAntisymmetric}
+use Rattle.std.specs.FinMap.{get, insert, empty, find, from_entries, from_entries_push, is_sorted, get-empty, get-insert, nat_cmp-IsAntisymmetric}
 use Rattle.std.specs.FinMap.Entries.{below_all}
 use Rattle.obj_kinds.specs.declared.node.Node.{Node}
 use Rattle.obj_kinds.specs.declared.value.Value.{Value}
@@ -19,8 +19,7 @@ use Rattle.store_core.specs.declared.entry.Entry.{Entry}
 use Rattle.store_core.specs.Volume.{volume}
 use Rattle.store_core.specs.Ledger.{Pairs}
 use Rattle.store_core.specs.Tied.{Logs, fresh, levels_in, IsOwed, IsTied}
-use Rattle.obj_kinds.specs.Limits.{is_legal_node, is_legal_value}
-use Rattle.store_core.specs.Within.{is_legal_at, is_legal_pair, AreLegal}
+use Rattle.store_core.specs.Within.{is_legal_pair}
 use Rattle.store_core.specs.Stands.{IsStore}
 use Rattle.store_core.proofs.StoreLaws.{ledger}
 
@@ -104,32 +103,13 @@ fresh_owed pins n most none = record {
 
 -- THE STORE
 
-nodes_legal : (nodes : Pairs) → list_all is_legal_pair nodes ≡ true → AreLegal (from_entries nodes)
-nodes_legal nodes all n = ap (is_legal_at n) (get-from_entries node_total nodes n) ∙ each nodes all
-  where
-    and_first : (a b : Bool) → a && b ≡ true → a ≡ true
-    and_first true b e = refl
-    and_first false b e = cc
-
-    and_second : (a b : Bool) → a && b ≡ true → b ≡ true
-    and_second true b e = e
-    and_second false b e = cc
-
-    each : (es : Pairs) → list_all is_legal_pair es ≡ true → is_legal_at n (find node_cmp n es) ≡ true
-    each [] e = refl
-    each (x ∷ xs) e = by (eq_by_cmp node_cmp n x.0) refl (each xs (and_second _ _ e))
-      where
-        by : (b : Bool) → eq_by_cmp node_cmp n x.0 ≡ b → is_legal_at n (find node_cmp n xs) ≡ true → is_legal_at n (cond b (Some x.1) (find node_cmp n xs)) ≡ true
-        by true t rest = ap (λ k. is_legal_node k && is_legal_value x.1) (one_key node_exact n x.0 t) ∙ and_first _ _ e
-        by false t rest = rest
-
 pub new_store : (nodes : Pairs) (tree : Contents) (logs : Logs) (n places room : ℕ) → 1 ≤ n → n ≤ 64 → IsTrue (is_sorted node_cmp nodes) → list_all is_legal_pair nodes ≡ true
     → tree.globals ≡ from_entries nodes → ((m : Node) → pins_of tree.pins m ≡ 0) → logs ≡ fresh n → n ≤ places → room < 2 ^ 64
     → IsStore nodes tree empty logs [] places room
 new_store nodes tree logs n places room some most rising limits globals none is enough low = subst (λ ls. IsStore nodes tree empty ls [] places room) (sym is) (record {
   some = omega (arith, length-fresh n);
   rising = rising;
-  within = nodes_legal nodes limits;
+  within = limits;
   legal_ops = tt;
   legal = tt;
   tied = subst (λ k. IsTied (opening k (from_entries nodes)) tree.globals empty (fresh n)) (sym (length-fresh n)) (record {

@@ -17,7 +17,7 @@ use Rattle.lock_table.specs.Conflict.{asked, ask_reply, refusing, told}
 use Rattle.tran_log.specs.Levels.{Levels}
 use Rattle.store_core.specs.Machine.{State, Sight, sight, seen, turn, after, answer, reply, live_with, levels_at, is_live, number_or, left_reply}
 use Rattle.store_core.specs.Numbers.{incremented}
-use Rattle.store_core.specs.Texts.{has_text}
+use Rattle.obj_kinds.specs.Replies.{has_text}
 use Rattle.store_core.specs.Tied.{Logs, IsTied}
 
 held_still : (hs : Holds) (h : Hold) (k : Keep) → has_text (ask_reply hs h) ≡ true → asked hs h k ≡ hs

@@ -19,7 +19,7 @@ use Rattle.store_core.specs.Ledger.{Pairs, Ledger, opened, state_of, next_entry,
 use Rattle.store_core.specs.Tied.{Logs, IsOwed, IsTied}
 use Rattle.obj_kinds.specs.Limits.{is_legal_op, is_legal_reply}
 use Rattle.store_core.specs.Within.{IsWithinLimits, AreLegalOps, AreLegalReplies}
-use Rattle.store_core.proofs.WithinLaws.{opening_within, states_within, replies_within, reply_within}
+use Rattle.store_core.proofs.WithinLaws.{nodes_legal, opening_within, states_within, replies_within, reply_within}
 use Rattle.store_core.specs.Stands.{IsStore}
 use Rattle.store_core.proofs.HistoryLaws.{legal_more, state_more, volume_more}
 use Rattle.store_core.proofs.LiveLaws.{live_has_place, ends_few}
@@ -260,7 +260,7 @@ ended_is nodes logs logs' es es' room l e p len more =
 
 -- ---- within the limits
 pub stands_within : {nodes : Pairs} {tree : Contents} {hs : Holds} {logs : Logs} {es : List Entry} {places room : ℕ} → IsStore nodes tree hs logs es places room → IsWithinLimits (stands nodes logs es)
-stands_within {nodes} {tree} {hs} {logs} {es} is = states_within _ es (opening_within (length logs) (from_entries nodes) is.within) is.legal_ops
+stands_within {nodes} {tree} {hs} {logs} {es} is = states_within _ es (opening_within (length logs) (from_entries nodes) (nodes_legal nodes is.within)) is.legal_ops
 
 pub answers_within : {nodes : Pairs} {tree : Contents} {hs : Holds} {logs : Logs} {es : List Entry} {places room : ℕ} → IsStore nodes tree hs logs es places room
     → (p : Pid) (op : Op) → is_legal_reply (reply (stands nodes logs es) p op) ≡ true
@@ -270,4 +270,4 @@ pub history_within : {nodes : Pairs} {tree : Contents} {hs : Holds} {logs : Logs
     → (l : Ledger) → ledger nodes logs es room ≡ l → AreLegalOps l.history × AreLegalReplies l.history
 history_within {nodes} {tree} {hs} {logs} {es} {places} {room} is l e =
     subst (λ (x : Ledger). AreLegalOps x.history × AreLegalReplies x.history) e
-    (is.legal_ops, replies_within _ es (opening_within (length logs) (from_entries nodes) is.within) is.legal is.legal_ops)
+    (is.legal_ops, replies_within _ es (opening_within (length logs) (from_entries nodes) (nodes_legal nodes is.within)) is.legal is.legal_ops)

@@ -1,5 +1,5 @@
 -- Every state of a legal history whose operations are within the limits is within them, and so is every reply.
-use Rattle.std.proofs.Common.{◌≡◌, ◌≢◌, ℕ, zero, suc, ℤ, pos, negsuc, ◌+ℤ◌, ◌+◌, ◌<◌, ◌≤◌, ◌^◌, Bool, true, false, cond, not, ◌&&◌, ◌==◌, nat_lt, nat_le, unsigned_abs, ◌⊎◌, inl, inr, List, [], ◌∷◌, ◌++◌, length, take, Option, Some, None, option_map, is_some, unwrap_or, refl, sym, ap, ap₂, subst, ◌∙◌, arith, nat_cmp}
+use Rattle.std.proofs.Common.{◌≡◌, ℕ, zero, suc, ℤ, pos, negsuc, ◌+ℤ◌, ◌+◌, ◌<◌, ◌≤◌, ◌^◌, Bool, true, false, cond, not, ◌&&◌, ◌==◌, nat_lt, nat_le, ◌⊎◌, inl, inr, List, [], ◌∷◌, ◌++◌, length, take, Option, Some, None, option_map, is_some, unwrap_or, refl, sym, ap, subst, ◌∙◌, arith, nat_cmp}
 use borrow.Author.Tests.{ltb-true}
 use lib.Signed.{mag}
 use Rattle.std.specs.Fmt.{signed_decimal}
@@ -8,7 +8,7 @@ use Rattle.std.specs.Char.{is_ascii}
 use Rattle.std.specs.List.{list_all}
 use Rattle.std.specs.Option.{option_or}
 use Rattle.std.specs.Ordering.{eq_by_cmp}
-use Rattle.std.specs.FinMap.{find, get, insert, retain_keys, entries, empty, contains_key, get-insert, get-entries, get-empty}
+use Rattle.std.specs.FinMap.{find, get, insert, retain_keys, entries, empty, from_entries, contains_key, get-insert, get-entries, get-empty, get-from_entries}
 use Rattle.std.proofs.lemmas.Bool.Decides.{nat_tests}
 use Rattle.std.proofs.lemmas.Cmp.{nat_cmp_total}
 use Rattle.std.proofs.lemmas.Fmt.{IsAscii-signed, length_signed_le}
@@ -16,33 +16,32 @@ use Rattle.std.proofs.lemmas.List.Folds.{list_all-append}
 use Rattle.obj_kinds.specs.declared.sub.Sub.{Sub}
 use Rattle.obj_kinds.specs.declared.node.Node.{Node}
 use Rattle.obj_kinds.specs.declared.value.Value.{Value}
-use Rattle.obj_kinds.specs.declared.value.Value.TheVariants.{Str}
 use Rattle.obj_kinds.specs.declared.op.Pid.{Pid}
 use Rattle.obj_kinds.specs.declared.op.Op.{Op}
-use Rattle.obj_kinds.specs.declared.op.Op.TheVariants.{Get, Defined, Order, Set, Kill, Incr, Lock, Unlock, UnlockAll, Begin, Commit, RollbackOne, RollbackAll, End}
+use Rattle.obj_kinds.specs.declared.op.Op.TheVariants.{Get, Order, Set, Kill, Incr, Lock, Unlock, UnlockAll, Begin, Commit, RollbackOne, RollbackAll, End}
 use Rattle.obj_kinds.specs.declared.op.Reply.TheVariants.{Done, Number, NotHeld, TooDeep}
 use Rattle.obj_kinds.specs.Order.{node_cmp, covers}
 use Rattle.obj_kinds.specs.OrderLaws.{node_total, node_exact}
 use Rattle.obj_kinds.specs.Limits.{is_legal_text, is_legal_sub, is_legal_node, is_legal_value, is_legal_op, is_legal_reply, is_global_name}
-use Rattle.obj_kinds.specs.Values.{weight, nested, all_texts}
 use Rattle.obj_kinds.proofs.ValueLaws.{nested-Str, weight-Str, all_texts-Str}
 use Rattle.obj_kinds.proofs.LineLaws.{covers_is}
 use Rattle.lock_table.specs.declared.hold.Hold.{Hold}
-use Rattle.lock_table.specs.Holds.{Holds, hold, all_back, all_given_back, given_back, without_end, tran_ended, all_dropped, is_counted, kept}
-use Rattle.lock_table.specs.Conflict.{refusing, told, asked, ask_reply, release_reply}
+use Rattle.lock_table.specs.Holds.{Holds, hold, all_back, all_given_back, without_end, tran_ended, all_dropped, is_counted, kept}
+use Rattle.lock_table.specs.Conflict.{refusing, told, ask_reply, release_reply}
 use Rattle.lock_table.proofs.FirstLaws.{first_is}
 use Rattle.lock_table.proofs.HoldLaws.{changed_within, given_back_within, dropped_within, asked_keys}
 use Rattle.global_tree.specs.Contents.{Globals}
-use Rattle.global_tree.specs.Below.{next_below, child, IsNext}
+use Rattle.global_tree.specs.Below.{next_below, child}
 use Rattle.global_tree.proofs.MapLaws.{get-placed, one_key}
 use Rattle.global_tree.proofs.NextLaws.{is_next}
 use Rattle.tran_log.specs.Levels.{Olds, Level, Levels, begun, note_top, noted, committed, rolled_back, top_undone, undone, all_undone}
 use Rattle.tran_log.proofs.LevelLaws.{get-noted, get-undone}
 use Rattle.store_core.specs.declared.entry.Entry.{Entry}
-use Rattle.store_core.specs.Machine.{State, Sight, seen, sight, turn, after, answer, reply, live_with, levels_at, is_open, killed, stored, found_or, next_or, number_or, begun_reply, left_reply, opening}
+use Rattle.store_core.specs.Machine.{State, Sight, seen, turn, after, answer, reply, live_with, levels_at, is_open, killed, stored, found_or, next_or, number_or, begun_reply, left_reply, opening}
 use Rattle.store_core.specs.Numbers.{is_whole, incremented, number_at, as_value}
 use Rattle.store_core.specs.History.{IsLegal, state_after}
-use Rattle.store_core.specs.Within.{is_legal_at, is_legal_old, AreLegal, AreLegalHolds, IsLegalLevel, AreLegalLevels, IsWithinLimits, AreLegalOps, AreLegalReplies}
+use Rattle.store_core.specs.Ledger.{Pairs}
+use Rattle.store_core.specs.Within.{is_legal_at, is_legal_pair, is_legal_old, AreLegal, AreLegalHolds, IsLegalLevel, AreLegalLevels, IsWithinLimits, AreLegalOps, AreLegalReplies}
 use Rattle.store_core.proofs.FrameLaws.{no_levels}
 use Rattle.store_core.proofs.Restored.{find_killed, get_killed}
 
@@ -382,6 +381,19 @@ pub reply_within : (s : State) (p : Pid) (op : Op) → IsWithinLimits s → is_l
 unfolding reply
 reply_within s p op w = answer_legal (seen s p) p op (seen_within s p w)
 
+-- ---- the opening
+-- nodes that are within the limits one by one are so as globals
+pub nodes_legal : (nodes : Pairs) → list_all is_legal_pair nodes ≡ true → AreLegal (from_entries nodes)
+nodes_legal nodes all n = ap (is_legal_at n) (get-from_entries node_total nodes n) ∙ each nodes all
+  where
+    each : (es : Pairs) → list_all is_legal_pair es ≡ true → is_legal_at n (find node_cmp n es) ≡ true
+    each [] e = refl
+    each (x ∷ xs) e = by (eq_by_cmp node_cmp n x.0) refl (each xs (and_second _ _ e))
+      where
+        by : (b : Bool) → eq_by_cmp node_cmp n x.0 ≡ b → is_legal_at n (find node_cmp n xs) ≡ true → is_legal_at n (cond b (Some x.1) (find node_cmp n xs)) ≡ true
+        by true t rest = ap (λ k. is_legal_node k && is_legal_value x.1) (one_key node_exact n x.0 t) ∙ and_first _ _ e
+        by false t rest = rest
+
 -- ---- histories
 pub opening_within : (pids : ℕ) (g : Globals) → AreLegal g → IsWithinLimits (opening pids g)
 opening_within pids g legal = record {
@@ -402,3 +414,7 @@ pub replies_within : (s : State) (es : List Entry) → IsWithinLimits s → IsLe
 replies_within s [] w legal ops = tt
 replies_within s (e ∷ es) w legal ops =
     (ap is_legal_reply legal.0.1 ∙ reply_within s e.pid e.op w, replies_within (after s e.pid e.op) es (after_within s e.pid e.op w ops.0) legal.1 ops.1)
+
+pub beginning_ops : (es fs : List Entry) → AreLegalOps (es ++ fs) → AreLegalOps es
+beginning_ops [] fs ops = tt
+beginning_ops (e ∷ es) fs ops = (ops.0, beginning_ops es fs ops.1)

@@ -10,4 +10,3 @@ pub mod Live
 pub mod Ledger
 pub mod LedgerCode
 pub mod Stands
-pub mod Texts

@@ -1,8 +1,6 @@
 -- What an increment makes of a node's value.
-use Rattle.std.specs.Prelude.{ℤ, pos, ◌+ℤ◌, ◌^◌, Bool, cond, ◌&&◌, nat_lt, unsigned_abs, Option, None, Some}
-use Rattle.std.specs.Fmt.{signed_decimal}
+use Rattle.std.specs.Prelude.{ℤ, pos, ◌+ℤ◌, cond, ◌&&◌, Option, None, Some}
 use Rattle.obj_kinds.specs.declared.value.Value.{Value}
-use Rattle.obj_kinds.specs.declared.value.Value.TheVariants.{Str}
 use Rattle.obj_kinds.specs.declared.value.Value.TheOpen.{Value-F}
 use Rattle.obj_kinds.specs.declared.value.Value.TheFolds.{fold-Value}
 use Rattle.obj_kinds.specs.LeadingNumber.{leading_number}

@@ -1,5 +1,6 @@
 -- How the parts of a store stand for its ledger.
-use Rattle.std.specs.Prelude.{ℕ, ◌+◌, ◌-◌, ◌≤◌, ◌<◌, ◌^◌, List, length, IsTrue}
+use Rattle.std.specs.Prelude.{ℕ, ◌≡◌, ◌+◌, ◌-◌, ◌≤◌, ◌<◌, ◌^◌, true, List, length, IsTrue}
+use Rattle.std.specs.List.{list_all}
 use Rattle.std.specs.FinMap.{from_entries, is_sorted}
 use Rattle.obj_kinds.specs.Order.{node_cmp}
 use Rattle.global_tree.specs.Contents.{Contents}
@@ -8,7 +9,7 @@ use Rattle.store_core.specs.declared.entry.Entry.{Entry}
 use Rattle.store_core.specs.Machine.{opening}
 use Rattle.store_core.specs.History.{IsLegal, state_after}
 use Rattle.store_core.specs.Volume.{volume}
-use Rattle.store_core.specs.Within.{AreLegal, AreLegalOps}
+use Rattle.store_core.specs.Within.{is_legal_pair, AreLegalOps}
 use Rattle.store_core.specs.Live.{ends}
 use Rattle.store_core.specs.Ledger.{Pairs}
 use Rattle.store_core.specs.Tied.{Logs, IsOwed, IsTied}
@@ -17,7 +18,7 @@ use Rattle.store_core.specs.Tied.{Logs, IsOwed, IsTied}
 pub record IsStore (nodes : Pairs) (tree : Contents) (holds : Holds) (logs : Logs) (history : List Entry) (places room : ℕ) : Type 0 where
   pub some : 1 ≤ length logs
   pub rising : IsTrue (is_sorted node_cmp nodes)
-  pub within : AreLegal (from_entries nodes)
+  pub within : list_all is_legal_pair nodes ≡ true
   pub legal_ops : AreLegalOps history
   pub legal : IsLegal (opening (length logs) (from_entries nodes)) history
   pub tied : IsTied (state_after (opening (length logs) (from_entries nodes)) history) tree.globals holds logs

@@ -1,8 +1,9 @@
-ghost use Rattle.std.specs.Prelude.{◌≡◌, ◌+◌, ◌≤◌, ◌≢◌, ℕ, true, false, None, List, [], ◌∷◌, ◌++◌, All};
+ghost use Rattle.std.specs.Prelude.{◌≡◌, ◌+◌, ◌≤◌, ◌≢◌, ◌==◌, ℕ, true, false, cond, None, List, [], ◌∷◌, ◌++◌, All};
+ghost use Rattle.std.specs.List.{list_all};
 ghost use Rattle.obj_kinds.specs.declared.op.Pid.{Pid};
 ghost use Rattle.obj_kinds.specs.declared.op.Op.{Op};
 ghost use Rattle.obj_kinds.specs.declared.op.Op.TheVariants.{End};
-ghost use Rattle.std.specs.FinMap.{get, contains_key};
+ghost use Rattle.std.specs.FinMap.{get, contains_key, from_entries};
 ghost use Rattle.obj_kinds.specs.declared.node.Node.{Node};
 ghost use Rattle.global_tree.specs.Contents.{Globals};
 ghost use Rattle.lock_table.specs.declared.hold.Hold.{Hold};
@@ -10,10 +11,10 @@ ghost use Rattle.lock_table.specs.Calls.{IsFree};
 ghost use Rattle.store_core.specs.Cleared.{cleared, outermost};
 ghost use Rattle.store_core.specs.declared.entry.Entry.{Entry};
 ghost use Rattle.store_core.specs.Machine.{State, is_live, levels_at, after, reply, opening};
-ghost use Rattle.store_core.specs.Within.{AreLegal, IsWithinLimits, AreLegalOps, AreLegalReplies};
+ghost use Rattle.store_core.specs.Within.{AreLegal, is_legal_pair, IsWithinLimits, AreLegalOps, AreLegalReplies};
 ghost use Rattle.obj_kinds.specs.Limits.{is_legal_reply};
-ghost use Rattle.store_core.specs.History.{IsLegal, IsLegalWithin, state_after, entry_of};
-ghost use Rattle.store_core.specs.Ledger.{Ledger, state_of, next_entry, end_entry, IsSound, ran, AreAccepted, after_all, entries_of};
+ghost use Rattle.store_core.specs.History.{IsLegal, IsLegalWithin, state_after, entry_of, part_of};
+ghost use Rattle.store_core.specs.Ledger.{Ledger, Pairs, state_of, next_entry, end_entry, IsSound, ran, AreAccepted, after_all, entries_of};
 ghost use Rattle.store_core.specs.Live.{ends, live_count};
 ghost use Rattle.store_core.specs.Volume.{entry_volume, volume};
 
@@ -73,9 +74,20 @@ pub fn runs_keep_stores_sound()
 
 /// A law of legal histories whose opening nodes and operations are within the limits of nodes,
 /// values and numbers: each state after such a history is within them, its globals, holds and
-/// levels, and so is each of its replies, and the next one.
+/// levels, and so is each of its replies, and the next one. [`crate::Store::opening`] and
+/// [`crate::Store::history`] say that a store's nodes and operations are so, and so are those of each
+/// beginning of its history.
 pub fn histories_stay_within_limits()
+    ensures opening { (nodes : Pairs) → list_all is_legal_pair nodes ≡ true → AreLegal (from_entries nodes) }
+    ensures beginnings { (es fs : List Entry) → AreLegalOps (es ++ fs) → AreLegalOps es }
     ensures states { (pids : ℕ) (g : Globals) (es : List Entry) → AreLegal g → AreLegalOps es → IsWithinLimits (state_after (opening pids g) es) }
     ensures replies { (pids : ℕ) (g : Globals) (es : List Entry) → AreLegal g → AreLegalOps es → IsLegal (opening pids g) es → AreLegalReplies es }
     ensures next { (pids : ℕ) (g : Globals) (es : List Entry) (p : Pid) (op : Op) → AreLegal g → AreLegalOps es → is_legal_reply (reply (state_after (opening pids g) es) p op) ≡ true }
+{}
+
+/// A law of the entries of single processes: a process of a store is live until its own entries have
+/// an end, and an entry more is one of its process alone.
+pub fn entries_tell_who_is_live()
+    ensures live { (l : Ledger) (p : Pid) → 1 ≤ p.0 → p.0 ≤ l.pids → ends (part_of p.0 l.history) ≡ 0 → is_live (state_of l) p ≡ true }
+    ensures own { (p : ℕ) (es : List Entry) (e : Entry) → part_of p (es ++ e ∷ []) ≡ part_of p es ++ cond (e.pid.0 == p) (e ∷ []) [] }
 {}

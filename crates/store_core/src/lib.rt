@@ -3,7 +3,7 @@
 #![tactic(auto)]
 
 mod act;
-mod copies;
+mod crossing;
 mod ends;
 mod entry;
 mod guard_laws;
@@ -26,8 +26,9 @@ pub use guard_laws::{
 };
 pub use history::History;
 pub use laws::{
-    cleared_without_levels, ended_processes_hold_nothing, processes_end_once,
-    runs_keep_stores_sound, steps_keep_histories_legal, turns_leave_others_alone,
+    cleared_without_levels, ended_processes_hold_nothing, entries_tell_who_is_live,
+    histories_stay_within_limits, processes_end_once, runs_keep_stores_sound,
+    steps_keep_histories_legal, turns_leave_others_alone,
 };
 pub use refusal::ApplyError;
 pub use store::Store;

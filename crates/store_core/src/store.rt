@@ -30,12 +30,13 @@ use tran_log::Log;
 /// history. The globals, the locks and the levels are those of the state after that history.
 #[derive(Drop)]
 pub struct Store {
-    alloc: Global,
-    nodes: Nodes,
+    // The fields of the deepest types come first: so the check finds that a store may cross threads.
+    told: History,
+    logs: Vec<Option<Log>>,
     tree: Tree,
     locks: Locks,
-    logs: Vec<Option<Log>>,
-    told: History,
+    nodes: Nodes,
+    alloc: Global,
     room: u64,
 }
 
@@ -57,7 +58,8 @@ impl Model for Store {
 
 impl Store {
     /// The store with these nodes and the live processes 1 to `pids`, of which there may be 64. Its
-    /// history may take so much of volume. The nodes and their values are within the limits. Memory for the end of each process is taken here.
+    /// history may take so much of volume. The nodes and their values are within the limits. Memory
+    /// for the end of each process is taken here.
     pub fn new(alloc: Global, pids: u32, nodes: Nodes, volume: u64) -> Result<Store, NoMemory>
         requires pids { (1 ≤ pids) × (pids ≤ 64) }
         requires rising { IsTrue (is_sorted node_cmp nodes) }
@@ -68,12 +70,12 @@ impl Store {
         let logs = fresh_logs(alloc, pids)?;
         let told = Vec::with_capacity(alloc, pids as usize)?;
         Ok(Store {
-            alloc,
-            nodes,
+            told,
+            logs,
             tree,
             locks: Locks::new(alloc),
-            logs,
-            told,
+            nodes,
+            alloc,
             room: volume,
         })
     }
@@ -131,10 +133,11 @@ impl Store {
         Reply::Done
     }
 
-    /// The nodes that the store was opened with. It takes no memory.
+    /// The nodes that the store was opened with, each of them within the limits. It takes no memory.
     pub fn opening(&self) -> &Nodes
         ensures nodes { result.now ≡ self.now.nodes }
         ensures rising { IsTrue (is_sorted node_cmp self.now.nodes) }
+        ensures limits { list_all is_legal_pair self.now.nodes ≡ true }
         ensures pids { (1 ≤ self.now.pids) × (self.now.pids ≤ 64) }
     {
         &self.nodes

@@ -1,14 +1,13 @@
 ghost use Rattle.std.specs.Prelude.{◌≡◌, ◌≢◌, ◌+◌, ◌-◌, ◌≤◌, ◌<◌, ◌^◌, true, None, slice_index_or, vec_len, vec_capacity, IfOk, IfErr, OnOk, OnErr, Err};
 ghost use Rattle.obj_kinds.specs.declared.op.Op.TheVariants.{End};
+ghost use Rattle.obj_kinds.specs.Replies.{has_text};
 ghost use Rattle.lock_table.specs.declared.hold.Hold.{Hold};
 ghost use Rattle.lock_table.specs.Holds.{kept};
 ghost use Rattle.store_core.specs.declared.refusal.ApplyError.TheVariants.{Volume, NoMemory};
 ghost use Rattle.store_core.specs.Volume.{op_volume, reply_volume};
 ghost use Rattle.store_core.specs.Machine.{State, after, reply as answer_to};
-ghost use Rattle.store_core.specs.Texts.{has_text};
 ghost use Rattle.store_core.specs.Tied.{IsOwed, IsTied};
 
-use crate::copies::copy_reply;
 use crate::history::{History, make_room};
 use crate::refusal::ApplyError;
 use crate::turns::turn;
@@ -53,7 +52,7 @@ fn told_twice(alloc: Global, reply: Reply, room: u64) -> Result<Told, ApplyError
     ensures left { IfOk result (λ t. t.left + reply_volume reply ≡ room) }
     ensures err { IfErr result (λ e. (e ≡ NoMemory) × (has_text reply ≡ true)) }
 {
-    let told = copy_reply(alloc, &reply)?;
+    let told = reply.copy(alloc)?;
     match without_reply(room, &reply) {
         Some(left) => Ok(Told {
             kept: reply,

@@ -10,10 +10,10 @@ use Rattle.obj_kinds.specs.declared.value.Value.{Value}
 use Rattle.obj_kinds.specs.Order.{node_cmp}
 use Rattle.obj_kinds.proofs.OrderLemmas.{node_total, node_exact}
 use Rattle.global_tree.specs.Maps.{placed}
-use Rattle.global_tree.specs.Search.{IsHit, IsGap}
+use Rattle.obj_kinds.specs.Search.{IsHit, IsGap}
 use Rattle.global_tree.proofs.MapLaws.{one_key, get-placed}
 use Rattle.global_tree.proofs.Parts.{first, second, find_below}
-use Rattle.global_tree.proofs.Sorted.{find_hit, find_gap, get_sorted}
+use Rattle.obj_kinds.proofs.Sorted.{find_hit, find_gap, get_sorted}
 use Rattle.tran_log.specs.Levels.{Olds, Level, Levels, Globals, noted_one, noted, put_all, undone, all_undone, committed, has, times}
 
 -- ---- one pair

@@ -9,7 +9,7 @@ use Rattle.obj_kinds.specs.Order.{node_cmp, covers}
 use Rattle.obj_kinds.proofs.OrderLemmas.{node_exact}
 use Rattle.global_tree.specs.Contents.{Globals, Pins, pins_of, pinned, taken_at}
 use Rattle.global_tree.proofs.PinLaws.{pins_of-pinned}
-use Rattle.global_tree.proofs.Sorted.{stays}
+use Rattle.obj_kinds.proofs.Sorted.{stays}
 use Rattle.tran_log.specs.Levels.{Olds, Levels, as_olds, begun, has, kept_by, times}
 use Rattle.tran_log.proofs.LevelLaws.{times_rising}
 

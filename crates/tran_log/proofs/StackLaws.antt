@@ -9,7 +9,7 @@ use Rattle.obj_kinds.specs.declared.node.Node.{Node}
 use Rattle.obj_kinds.specs.declared.value.Value.{Value}
 use Rattle.obj_kinds.specs.Order.{node_cmp}
 use Rattle.obj_kinds.proofs.OrderLemmas.{node_total}
-use Rattle.global_tree.proofs.Sorted.{entries_sorted_list, from_sorted-nil}
+use Rattle.obj_kinds.proofs.Sorted.{entries_sorted_list, from_sorted-nil}
 use Rattle.tran_log.specs.Levels.{Olds, Levels, Globals, put_all, top_undone, noted, has, kept_by, times, begun, note_top, committed}
 use Rattle.tran_log.specs.Kept.{Kept, level_of, levels_of, IsRising, IsLog}
 use Rattle.tran_log.proofs.LevelLaws.{times_level}

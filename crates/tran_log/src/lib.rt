@@ -17,6 +17,3 @@ pub use laws::{
 };
 pub use log::Log;
 pub use olds::olds_of;
-
-#[cfg(test)]
-mod tests;

@@ -2,7 +2,7 @@ use Rattle.std.proofs.Common.{rules}
 use Rattle.std.proofs.lemmas.Fn.{always_returns_same}
 use Rattle.obj_kinds.specs.Order.{node_cmp}
 use Rattle.obj_kinds.proofs.OrderLemmas.{node_total}
-use Rattle.global_tree.proofs.Sorted.{searched}
+use Rattle.obj_kinds.proofs.Sorted.{searched}
 use Rattle.global_tree.proofs.search.search_node.Goals as goal
 
 -- the closure compares the pair's node with the one that is sought

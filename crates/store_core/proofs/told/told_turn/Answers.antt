@@ -1,5 +1,5 @@
 use Rattle.std.proofs.Common.{sym, ap, ◌∙◌}
-use Rattle.store_core.specs.Texts.{has_text}
+use Rattle.obj_kinds.specs.Replies.{has_text}
 use Rattle.store_core.proofs.Outcomes.{if_err}
 use Rattle.store_core.proofs.QuietLaws.{quiet_tied}
 use Rattle.store_core.proofs.StoreLaws.{tied_live}

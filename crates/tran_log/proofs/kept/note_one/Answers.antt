@@ -6,7 +6,7 @@ use Rattle.obj_kinds.specs.Order.{node_cmp}
 use Rattle.obj_kinds.proofs.OrderLemmas.{node_total, node_exact}
 use Rattle.global_tree.proofs.MapLaws.{one_key}
 use Rattle.global_tree.proofs.PinLaws.{pins_of-unpinned}
-use Rattle.global_tree.proofs.Sorted.{gap_edit}
+use Rattle.obj_kinds.proofs.Sorted.{gap_edit}
 use Rattle.tran_log.specs.Levels.{Pins, pins_of, has}
 use Rattle.tran_log.specs.Kept.{level_of}
 use Rattle.tran_log.proofs.LevelLaws.{noted_has, noted_new, has_new, hit_has, gap_lacks}

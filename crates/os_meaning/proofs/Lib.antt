@@ -1,0 +1,4 @@
+pub mod Sampled
+pub mod Balances
+pub mod ExprBalances
+pub mod ScriptBalances

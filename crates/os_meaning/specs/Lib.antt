@@ -1,0 +1,10 @@
+pub mod Syntax
+pub mod Tree
+pub mod Values
+pub mod Frames
+pub mod Expressions
+pub mod Commands
+pub mod Meaning
+pub mod Shown
+pub mod Samples
+pub mod Accounts
