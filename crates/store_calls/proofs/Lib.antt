@@ -1,0 +1,4 @@
+pub mod TurnRules
+pub mod WalkRules
+pub mod UnitRules
+pub mod ProcessRules
