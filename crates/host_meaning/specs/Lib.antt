@@ -1,0 +1,5 @@
+pub mod Methods
+pub mod Objects
+pub mod Process
+pub mod Samples
+pub mod Fuel
