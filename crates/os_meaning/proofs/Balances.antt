@@ -211,23 +211,15 @@ module _ (o : ℕ) where
   ordered_at g [] line go k b = record { it = tt }
   ordered_at g (last ∷ vs) line go k b = checks _ line _ k (λ after. noded g vs line _ k (λ n. asks _ _ k (λ a. replied a _ k (λ r. was_next r go k b))))
 
-  -- the place of what a method is called on
-  abbrev pub of_subject : Subject → ℕ
-  of_subject (Whole v) = count o v
-  of_subject (Collection number property owner) = count_some o owner
-
-  pub called : (on : Subject) (m : Name) (vs : List Val) (line : ℕ) (go : Val → Frame) (k : ℕ) → ((v : Val) → B (go v) (k + count o v)) → B (calls on m vs line go) (k + count_each o vs + of_subject on)
+  pub called : (on : Subject) (m : Name) (vs : List Val) (line : ℕ) (go : Val → Frame) (k : ℕ) → ((v : Val) → B (go v) (k + count o v)) → B (calls on m vs line go) k
   unfolding calls
-  called (Whole object) m vs line go k b =
-      checks _ line _ _ (λ number. asks _ _ _ (λ a. got line a _ _ (λ v. lost_each vs _ (k + count o v + count o object) _ (omega arith) (lost object _ (k + count o v) _ refl (b v)))))
-  called (Collection number property owner) m vs line go k b =
-      asks _ _ _ (λ a. got line a _ _ (λ v. lost_each vs _ (k + count o v + count_some o owner) _ (omega arith) (lost_some owner _ (k + count o v) _ refl (b v))))
+  called (Whole object) m vs line go k b = checks _ line _ k (λ number. asks _ _ k (λ a. got line a go k b))
+  called (Collection number property) m vs line go k b = asks _ _ k (λ a. got line a go k b)
 
-  pub called_own : (this : Option Val) (m : Name) (vs : List Val) (line : ℕ) (go : Val → Frame) (k : ℕ) → ((v : Val) → B (go v) (k + count o v)) → B (calls_own this m vs line go) (k + count_each o vs)
+  pub called_own : (this : Option Val) (m : Name) (vs : List Val) (line : ℕ) (go : Val → Frame) (k : ℕ) → ((v : Val) → B (go v) (k + count o v)) → B (calls_own this m vs line go) k
   unfolding calls_own
-  called_own None m vs line go k b = asks _ _ _ (λ a. got line a _ _ (λ v. lost_each vs _ (k + count o v) _ (omega arith) (b v)))
-  called_own (Some object) m vs line go k b =
-      checks _ line _ _ (λ number. asks _ _ _ (λ a. got line a _ _ (λ v. lost_each vs _ (k + count o v) _ (omega arith) (b v))))
+  called_own None m vs line go k b = asks _ _ k (λ a. got line a go k b)
+  called_own (Some object) m vs line go k b = checks _ line _ k (λ number. asks _ _ k (λ a. got line a go k b))
 
   pub written : (object : Val) (p : Name) (v : Val) (line : ℕ) (f : Frame) (k : ℕ) → B f k → B (writes object p v line f) k
   unfolding writes

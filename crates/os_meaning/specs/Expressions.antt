@@ -68,24 +68,24 @@ module _ (this : Option Val) (line : ℕ) where
     value (s.OwnProperty name) vars go =
         checked (object_here this) line (λ o. checked (object_in o) line (λ number.
         Asks (call.Read number name) (λ a. on_got line a (λ v. go v vars))))
-    value (s.OwnMethod name args) vars go = values args [] vars (λ vs vars. calls_own this name vs line (λ v. go v vars))
+    value (s.OwnMethod name args) vars go = values args [] vars (λ vs vars. calls_own this name vs line (λ v. loses_each vs (go v vars)))
     value (s.Property object name) vars go =
         value object vars (λ o vars. checked (object_in o) line (λ number.
         Asks (call.Read number name) (λ a. on_got line a (λ v. loses o (go v vars)))))
-    -- A method of a property is one of its value, or one of the collection that it is. A value that has no members is
-    -- refused when the arguments have been evaluated.
+    -- A method of a property is one of its value, or one of the collection that it is; then the object keeps its place until the
+    -- call has ended. A value that has no members is refused when the arguments have been evaluated.
     value (s.OwnPropertyMethod property name args) vars go =
         checked (object_here this) line (λ o. checked (object_in o) line (λ number.
         Asks (call.Read number property) (λ a. on_read line a
-        (λ v. values args [] vars (λ vs vars. calls (Whole v) name vs line (λ r. go r vars)))
-        (values args [] vars (λ vs vars. calls (Collection number property None) name vs line (λ r. go r vars))))))
+        (λ v. values args [] vars (λ vs vars. calls (Whole v) name vs line (λ r. loses_each vs (loses v (go r vars)))))
+        (values args [] vars (λ vs vars. calls (Collection number property) name vs line (λ r. loses_each vs (go r vars)))))))
     value (s.PropertyMethod object property name args) vars go =
         value object vars (λ o vars. checked (object_in o) line (λ number.
         Asks (call.Read number property) (λ a. on_read line a
-        (λ v. loses o (values args [] vars (λ vs vars. calls (Whole v) name vs line (λ r. go r vars))))
-        (values args [] vars (λ vs vars. calls (Collection number property (Some o)) name vs line (λ r. go r vars))))))
+        (λ v. loses o (values args [] vars (λ vs vars. calls (Whole v) name vs line (λ r. loses_each vs (loses v (go r vars))))))
+        (values args [] vars (λ vs vars. calls (Collection number property) name vs line (λ r. loses_each vs (loses o (go r vars))))))))
     value (s.Method object name args) vars go =
-        value object vars (λ o vars. values args [] vars (λ vs vars. calls (Whole o) name vs line (λ r. go r vars)))
+        value object vars (λ o vars. values args [] vars (λ vs vars. calls (Whole o) name vs line (λ r. loses_each vs (loses o (go r vars)))))
     value (s.Signed sign e) vars go = value e vars (λ x vars. checked (signs sign x) line (λ r. loses x (go (Data r) vars)))
     value (s.Binary op a b) vars go =
         value a vars (λ x vars. value b vars (λ y vars. checked (joins op x y) line (λ r. loses y (loses x (go (Data r) vars)))))

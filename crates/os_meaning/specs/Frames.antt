@@ -128,11 +128,10 @@ abbrev pub object_here : Option Val → Checked Val
 object_here None = Err error.InvalidOref
 object_here (Some v) = Ok v
 
--- What a method is called on: a value, or the collection or many side that is a property of an object; the value from
--- which that object was taken has a place until the call has ended.
+-- What a method is called on: a value, or the collection or many side that is a property of an object.
 pub data Subject : Type 0 where
   Whole : Val → Subject
-  Collection : ℕ → Name → Option Val → Subject
+  Collection : ℕ → Name → Subject
 
 -- ---- what is answered; an answer that doesn't fit ends the frame
 
@@ -244,21 +243,18 @@ orders global (last ∷ vs) line go =
     checked (after_of (length vs) last) line (λ after.
     at_node global vs line (λ n. Asks (call.Store (ops.Order n after)) (λ a. on_reply a (λ r. next r go))))
 
--- ---- calls of methods. The values of arguments are given from the last to the first, and lost in this order.
+-- ---- calls of methods. The values of arguments are given from the last to the first.
 
 unfoldable pub calls : Subject → Name → List Val → ℕ → (Val → Frame) → Frame
 calls (Whole object) member vs line go =
-    checked (object_in object) line (λ number.
-    Asks (call.OnObject number member (reverse vs)) (λ a. on_got line a (λ v. loses_each vs (loses object (go v)))))
-calls (Collection number property held) member vs line go =
-    Asks (call.OnItems number property member (reverse vs)) (λ a. on_got line a (λ v. loses_each vs (loses_some held (go v))))
+    checked (object_in object) line (λ number. Asks (call.OnObject number member (reverse vs)) (λ a. on_got line a go))
+calls (Collection number property) member vs line go = Asks (call.OnItems number property member (reverse vs)) (λ a. on_got line a go)
 
 -- of the object whose method runs, and where there is none, of the class of the method
 unfoldable pub calls_own : Option Val → Name → List Val → ℕ → (Val → Frame) → Frame
-calls_own None member vs line go = Asks (call.OnOwn member (reverse vs)) (λ a. on_got line a (λ v. loses_each vs (go v)))
+calls_own None member vs line go = Asks (call.OnOwn member (reverse vs)) (λ a. on_got line a go)
 calls_own (Some object) member vs line go =
-    checked (object_in object) line (λ number.
-    Asks (call.OnObject number member (reverse vs)) (λ a. on_got line a (λ v. loses_each vs (go v))))
+    checked (object_in object) line (λ number. Asks (call.OnObject number member (reverse vs)) (λ a. on_got line a go))
 
 unfoldable pub writes : Val → Name → Val → ℕ → Frame → Frame
 writes object property v line f =
