@@ -17,3 +17,5 @@ pub mod SetLaws
 pub mod Variants
 pub mod InsertLaws
 pub mod MemberLaws
+pub mod PlaceLaws
+pub mod RowLaws

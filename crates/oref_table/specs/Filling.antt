@@ -1,5 +1,5 @@
 -- What stands at a place once it is filled.
-use Rattle.std.specs.Prelude.{ℕ, ◌≡◌, ◌+◌, ◌<◌, ◌≤◌, ◌==◌, Bool, Option, Some, None, IfSome, IsSome, List, [], ◌∷◌, slice_set, slice_get, insert, length}
+use Rattle.std.specs.Prelude.{ℕ, ◌≡◌, ◌<◌, ◌≤◌, ◌==◌, Bool, Some, None, IfSome, IsSome, List, [], ◌∷◌, slice_set, slice_get, insert, length}
 use Rattle.oref_table.specs.declared.oref.Oref.{Oref}
 use Rattle.oref_table.specs.declared.slot.Slot.{Slot}
 use Rattle.oref_table.specs.declared.slot.Slot.TheVariants.{Plain, Target, To, Items, Members}
@@ -23,9 +23,6 @@ passed _ = []
 unfoldable pub IsHeldFor : Memory → Fill → Type 0
 IsHeldFor m (fill.To h) = 0 < outside_of m h.number
 IsHeldFor m _ = Unit {0}
-
-abbrev pub HasSlot : Memory → ℕ → ℕ → Type 0
-HasSlot m n s = IfSome (object_of n m.objects) (λ o. s < length o.slots)
 
 -- the slot of the object is a list of so many items at least
 abbrev pub HasItems : Memory → ℕ → ℕ → ℕ → Type 0
@@ -51,7 +48,3 @@ InsertsItem m w n s before with_ = (o : Object) × (items : List Slot) × (objec
 -- the member is taken out of the slot, and then all released that nothing holds
 abbrev pub DropsMember : Memory → Memory → ℕ → ℕ → ℕ → Type 0
 DropsMember m w n s k = (o : Object) × (members : List Oref) × (object_of n m.objects ≡ Some o) × (slice_get o.slots s ≡ Some (Members members)) × (w ≡ dropped (edited m n (with_slot s (Members (without_first (is_member k) members)))))
-
--- the slot filled, and then all released that nothing holds
-unfoldable pub slot_filled : Memory → ℕ → ℕ → Fill → Memory
-slot_filled m n s with_ = dropped (loosed (edited m n (with_slot s (slot_from with_))) (passed with_))

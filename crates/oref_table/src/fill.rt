@@ -5,7 +5,20 @@ ghost use Rattle.oref_table.specs.Filling.{slot_from};
 
 use crate::oref::{Held, Oref};
 use crate::slot::Slot;
-use obj_kinds::{Id, Value};
+use obj_kinds::{Id, Sub, Value};
+
+/// A place of an object.
+#[derive(Drop)]
+pub enum Place {
+    /// The slot of this number, counted from 0.
+    Slot(u32),
+    /// An item of the list in the slot, counted from 0; the number of items stands for a place after the last.
+    Item(u32, u64),
+    /// The element of the array in the slot that has this key, or is to have it.
+    Pair(u32, Sub),
+    /// One more among the members in the slot.
+    Member(u32),
+}
 
 /// What is to stand at a place; nothing takes out what stands there, and leaves no id in a slot.
 pub enum Fill {

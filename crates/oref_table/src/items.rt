@@ -1,10 +1,7 @@
-ghost use Rattle.std.specs.Prelude.{◌≡◌, ◌<◌, ◌≤◌, List, Some, None, insert, length, slice_get, slice_set, slice_index_or, vec_len};
-ghost use Rattle.oref_table.specs.declared.obj.Entry.{Entry};
-ghost use Rattle.oref_table.specs.Entries.{with_entry_slot};
+ghost use Rattle.std.specs.Prelude.{◌≡◌, ◌<◌, ◌≤◌, List, Some, None, insert, length, slice_get, slice_set};
 ghost use Rattle.oref_table.specs.declared.slot.Slot.{Slot};
 ghost use Rattle.oref_table.specs.declared.slot.Slot.TheVariants.{Items};
 
-use crate::obj::Entry;
 use crate::slot::{Slot, Slots};
 
 /// A list with the item before the one at the place or at its end, or as it was, and then the item is handed
@@ -22,7 +19,7 @@ fn with_item(items: Slots, before: usize, item: Slot) -> (Slots, Option<Slot>)
 }
 
 /// Adds an item to the list in the slot, or hands it back.
-fn insert_into(slots: &mut Slots, at: usize, before: usize, item: Slot) -> Option<Slot>
+pub fn insert_into(slots: &mut Slots, at: usize, before: usize, item: Slot) -> Option<Slot>
     requires within { at < length slots.old }
     requires list { (items : List Slot) × (slice_get slots.old at ≡ Some (Items items)) × (before ≤ length items) }
     ensures added { result ≡ None → (items : List Slot) × (slice_get slots.old at ≡ Some (Items items)) × (slots.new ≡ slice_set slots.old at (Items (insert items before item))) }
@@ -39,21 +36,4 @@ fn insert_into(slots: &mut Slots, at: usize, before: usize, item: Slot) -> Optio
             Some(item)
         }
     }
-}
-
-/// Adds an item to the list in the slot of the entry, or hands it back.
-pub fn insert_at(
-    entries: &mut Vec<Entry>,
-    place: usize,
-    at: usize,
-    before: usize,
-    item: Slot,
-) -> Option<Slot>
-    requires within { place < vec_len entries.old }
-    requires there { (d : Entry) → at < length (slice_index_or entries.old.items place d).obj.slots }
-    requires list { (d : Entry) → (items : List Slot) × (slice_get (slice_index_or entries.old.items place d).obj.slots at ≡ Some (Items items)) × (before ≤ length items) }
-    ensures added { (d : Entry) → result ≡ None → (items : List Slot) × (slice_get (slice_index_or entries.old.items place d).obj.slots at ≡ Some (Items items)) × (entries.new.items ≡ slice_set entries.old.items place (with_entry_slot at (Items (insert items before item)) (slice_index_or entries.old.items place d))) }
-    ensures refused { (back : Slot) → result ≡ Some back → (back ≡ item) × (entries.new.items ≡ entries.old.items) }
-{
-    insert_into(&mut entries[place].obj.slots, at, before, item)
 }

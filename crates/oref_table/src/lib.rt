@@ -3,18 +3,22 @@
 #![tactic(auto)]
 
 mod counts;
+mod edits;
 mod fill;
 mod items;
 mod laws;
 mod members;
 mod obj;
+mod objects;
 mod oref;
+mod places;
 mod release;
+mod rows;
 mod search;
 mod slot;
 mod table;
 
-pub use fill::Fill;
+pub use fill::{Fill, Place};
 pub use laws::{drops_have_one_end, holds_outside_are_accounted_for, what_holds_itself_up_stays};
 pub use obj::{Freed, Obj, Released};
 pub use oref::{Held, Oref};

@@ -1,9 +1,14 @@
-ghost use Rattle.std.specs.Prelude.{◌≡◌, ◌<◌, ◌↔◌, ℕ, Some, IsTrue, IfSome, IfNone, length, slice_get, slice_index_or};
-ghost use Rattle.oref_table.specs.declared.obj.Entry.{Entry};
+ghost use Rattle.std.specs.Prelude.{◌≡◌, ◌↔◌, Some, IsTrue, IfSome, IfNone};
+ghost use Rattle.std.specs.List.{AllByRecursion};
+ghost use Rattle.std.specs.Map.{lookup};
+ghost use Rattle.std.specs.BTreeMap.{is_at};
 ghost use Rattle.std.specs.Option.{option_copied};
-ghost use Rattle.oref_table.specs.Entries.{IsEntryKey};
+ghost use Rattle.std.specs.Ordering.{nat_cmp};
+ghost use Rattle.oref_table.specs.declared.obj.Obj.{Obj};
+ghost use Rattle.oref_table.specs.Rows.{IsKeyed};
 
-use crate::obj::Entry;
+use crate::obj::Obj;
+use crate::rows::ByNumber;
 use obj_kinds::{ClassName, Id};
 
 fn is_extent(kept: Option<&ClassName>, extent: &ClassName) -> bool
@@ -24,21 +29,21 @@ fn is_id(kept: Option<Id>, id: Id) -> bool
     }
 }
 
-/// Whether the entry is of the object with this id in this extent.
-fn has_key(entry: &Entry, extent: &ClassName, id: Id) -> bool
-    ensures { IsTrue result ↔ IsEntryKey extent.now id entry.now }
+/// Whether the object has this id in this extent.
+fn has_key(obj: &Obj, extent: &ClassName, id: Id) -> bool
+    ensures { IsTrue result ↔ IsKeyed extent.now id obj.now }
 {
-    is_extent(entry.obj.extent.as_ref(), extent) && is_id(entry.obj.id, id)
+    is_extent(obj.extent.as_ref(), extent) && is_id(obj.id, id)
 }
 
-/// The number of the object with this id in this extent.
-pub fn find_key(entries: &[Entry], extent: &ClassName, id: Id) -> Option<u64>
-    ensures found { IfSome result (λ n. (k : ℕ) × (e : Entry) × (slice_get entries.now k ≡ Some e) × (e.number ≡ n) × IsEntryKey extent.now id e) }
-    ensures none { IfNone result ((k : ℕ) (d : Entry) → k < length entries.now → ¬ IsEntryKey extent.now id (slice_index_or entries.now k d)) }
+/// The number of the object with this id in this extent. It looks at the objects from the first on.
+pub fn find_number(rows: &ByNumber, extent: &ClassName, id: Id) -> Option<u64>
+    ensures found { IfSome result (λ n. (v : Obj) × (lookup (is_at (nat_cmp n)) rows.now.entries ≡ Some v) × IsKeyed extent.now id v) }
+    ensures none { IfNone result (AllByRecursion (λ p. ¬ IsKeyed extent.now id p.1) rows.now.entries) }
 {
-    for entry in entries {
-        if has_key(entry, extent, id) {
-            return Some(entry.number);
+    for (number, obj) in rows.iter() {
+        if has_key(obj, extent, id) {
+            return Some(*number);
         }
     }
     None

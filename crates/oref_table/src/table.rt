@@ -1,25 +1,24 @@
-ghost use Rattle.std.specs.Prelude.{◌≡◌, ◌≢◌, ◌+◌, ◌<◌, ◌≤◌, ◌^◌, ◌↔◌, [], ◌∷◌, length, IfOk, OnOk, IfErr, OnErr, IsErr, IfSome, IfNone, IsSomeAnd};
+ghost use Rattle.std.specs.Prelude.{ℕ, ◌≡◌, ◌≢◌, ◌+◌, ◌-◌, ◌<◌, ◌≤◌, ◌^◌, ◌↔◌, [], ◌∷◌, length, IfOk, OnOk, IfErr, OnErr, IsErr, IfSome, IfNone, IsSomeAnd};
 ghost use Rattle.std.specs.List.{AllByRecursion};
 ghost use Rattle.std.specs.Option.{option_copied, option_map};
 ghost use Rattle.obj_kinds.specs.declared.name.ClassName.{ClassName};
 ghost use Rattle.obj_kinds.specs.declared.id.Id.{Id};
 ghost use Rattle.obj_kinds.specs.declared.memory.Lack.TheVariants.{Count};
-ghost use Rattle.oref_table.specs.Refs.{refs_in};
+ghost use Rattle.oref_table.specs.Refs.{refs_in, times};
 ghost use Rattle.oref_table.specs.Sound.{IsFree, HasKey, IsSound};
 ghost use Rattle.oref_table.specs.Kept.{as_kept, holders_of};
 ghost use Rattle.oref_table.specs.Memory.{outside_of, loosed, edited, tighten, with_id, with_level, with_mark, with_object, fresh, holders, object_of, IsLive};
 ghost use Rattle.oref_table.specs.Dropping.{dropped};
-ghost use Rattle.oref_table.specs.Filling.{InsertsItem, DropsMember, HasItems, HasMember, HasSlot, IsHeldFor, slot_filled};
+ghost use Rattle.oref_table.specs.Filling.{InsertsItem, DropsMember, HasItems, HasMember, IsHeldFor, passed};
+ghost use Rattle.oref_table.specs.Places.{MayFill, IsFilledTo};
 ghost use Rattle.oref_table.specs.declared.fill.Fill.TheVariants.{Nothing};
 
-use crate::counts::{one_more, place_of};
-use crate::fill::{Fill, fill_of, slot_of};
-use crate::items::insert_at;
-use crate::members::drop_at;
-use crate::obj::{Entry, Obj, Released};
+use crate::counts::give_up;
+use crate::fill::{Fill, Place, fill_of, slot_of};
+use crate::obj::{Obj, Released};
+use crate::objects::Objects;
 use crate::oref::{Held, Oref};
-use crate::release::{give_back, make_room, refill, release};
-use crate::search::find_key;
+use crate::release::{make_room, release};
 use crate::slot::Slots;
 use obj_kinds::{ClassName, Id, Lack, NoMemory};
 use std::alloc::Global;
@@ -29,9 +28,10 @@ use std::marker::Model;
 /// outside name each, the last number that was given, and what is told of those released.
 #[derive(Drop)]
 pub struct Table {
-    entries: Vec<Entry>,
+    objects: Objects,
     last: u64,
     released: Released,
+    alloc: Global,
 }
 
 impl Model for Table {
@@ -44,9 +44,9 @@ impl Model for Table {
 
     ghost coded = { memory_code };
 
-    ghost view = { λ t. memory_of t.entries.items t.last t.released.items };
+    ghost view = { λ t. memory_of t.objects t.last t.released.items };
 
-    ghost invariant = { λ t. IsTable t.entries.items t.last t.released.items (vec_capacity t.released) };
+    ghost invariant = { λ t. IsTable t.objects t.last t.released.items (vec_capacity t.released) };
 }
 
 impl Table {
@@ -55,9 +55,10 @@ impl Table {
         ensures { result ≡ record { objects = []; last = 0; freed = [] } }
     {
         Table {
-            entries: Vec::new(alloc),
+            objects: Objects::new(alloc),
             last: 0,
             released: Vec::new(alloc),
+            alloc,
         }
     }
 
@@ -76,24 +77,23 @@ impl Table {
         ensures ok { OnOk result (self.new ≡ with_object self.old (fresh self.old class extent id level slots)) }
         ensures held { IfOk result (λ h. h.number ≡ self.old.last + 1) }
         ensures outside { IfOk result (λ h. outside_of self.new h.number ≡ 1) }
+        ensures holds { IfOk result (λ h. (n : ℕ) → outside_of self.new n ≡ outside_of self.old n + times n (h.number ∷ [])) }
         ensures err { OnErr result (self.new ≡ self.old) }
         ensures count { (result ≡ Err Count) ↔ (2 ^ 64 ≤ self.old.last + 1) }
     {
         let number = self.last.checked_add(1).ok_or(Lack::Count)?;
-        make_room(&mut self.entries, &mut self.released)?;
+        make_room(&self.objects, &mut self.released)?;
+        let obj = Obj {
+            class,
+            extent,
+            id,
+            level,
+            modified: false,
+            slots,
+            count: 1,
+        };
+        self.objects.add(number, obj)?;
         self.last = number;
-        self.entries.push_reserved(Entry {
-            number,
-            obj: Obj {
-                class,
-                extent,
-                id,
-                level,
-                modified: false,
-                slots,
-                count: 1,
-            },
-        });
         Ok(Held { number })
     }
 
@@ -103,23 +103,23 @@ impl Table {
         ensures ok { OnOk result (self.new ≡ edited self.old oref.0 tighten) }
         ensures held { IfOk result (λ h. h.number ≡ oref.0) }
         ensures outside { IfOk result (λ h. outside_of self.new h.number ≡ outside_of self.old h.number + 1) }
+        ensures holds { IfOk result (λ h. (n : ℕ) → outside_of self.new n ≡ outside_of self.old n + times n (h.number ∷ [])) }
         ensures err { IfErr result (λ e. (e ≡ Count) × (self.new ≡ self.old)) }
         ensures count { IsErr result ↔ (2 ^ 64 ≤ holders_of self.old oref.0 + 1) }
     {
-        let place = place_of(self.entries.as_slice(), oref.0).unwrap();
-        let count = one_more(&self.entries[place])?;
-        self.entries[place].obj.count = count;
+        self.objects.raise(oref.0)?;
         Ok(Held { number: oref.0 })
     }
 
     /// Gives the hold back, and releases all that nothing holds from then on. It takes no memory.
     pub fn let_go(&mut self, held: Held)
         requires { 0 < outside_of self.old held.number }
-        ensures { self.new ≡ dropped (loosed self.old (held.number ∷ [])) }
+        ensures memory { self.new ≡ dropped (loosed self.old (held.number ∷ [])) }
+        ensures holds { (n : ℕ) → outside_of self.new n ≡ outside_of self.old n - times n (held.number ∷ []) }
     {
         let Held { number } = held;
-        give_back(&mut self.entries, number);
-        release(&mut self.entries, &mut self.released);
+        self.objects.lower(number);
+        release(&mut self.objects, &mut self.released);
     }
 
     /// Passes the hold to a place of the caller's own, as a variable. It takes no memory.
@@ -141,16 +141,27 @@ impl Table {
         Held { number: oref.0 }
     }
 
-    /// Fills the slot, and releases all that nothing holds from then on. It takes no memory.
-    pub fn fill_slot(&mut self, oref: Oref, slot: u32, with: Fill)
+    /// Fills the place, and releases all that nothing holds from then on. An item is put in the place of another or,
+    /// where the place is the number of items, at the end, and `Nothing` takes it out; at a slot `Nothing` leaves no id;
+    /// among members an object that isn't one yet is added. For want of memory it hands back what was to stand there,
+    /// and the table is as before.
+    pub fn fill(&mut self, oref: Oref, at: &Place, with: Fill) -> Result<(), (Fill, NoMemory)>
         requires live { IsLive self.old oref.0 }
-        requires there { HasSlot self.old oref.0 slot }
+        requires place { MayFill self.old oref.0 at.now with }
         requires held { IsHeldFor self.old with }
-        ensures { self.new ≡ slot_filled self.old oref.0 slot with }
+        ensures ok { OnOk result (IsFilledTo self.old self.new oref.0 at.now with) }
+        ensures holds { OnOk result ((n : ℕ) → outside_of self.new n ≡ outside_of self.old n - times n (passed with)) }
+        ensures err { OnErr result (self.new ≡ self.old) }
+        ensures back { IfErr result (λ e. e.0 ≡ with) }
     {
-        let place = place_of(self.entries.as_slice(), oref.0).unwrap();
-        refill(&mut self.entries, place, slot as usize, slot_of(with));
-        release(&mut self.entries, &mut self.released);
+        match self.objects.fill(self.alloc, oref.0, at, with) {
+            Ok(out) => {
+                give_up(&mut self.objects, out);
+                release(&mut self.objects, &mut self.released);
+                Ok(())
+            }
+            Err(with) => Err((with, NoMemory)),
+        }
     }
 
     /// Puts an item before the one at the place in the list in the slot, counted from 0, or at its end where the
@@ -168,17 +179,14 @@ impl Table {
         requires held { IsHeldFor self.old with }
         requires filling { with ≢ Nothing }
         ensures ok { OnOk result (InsertsItem self.old self.new oref.0 slot before with) }
+        ensures holds { OnOk result ((n : ℕ) → outside_of self.new n ≡ outside_of self.old n - times n (passed with)) }
         ensures err { OnErr result (self.new ≡ self.old) }
         ensures back { IfErr result (λ e. e.0 ≡ with) }
     {
-        let place = place_of(self.entries.as_slice(), oref.0).unwrap();
-        match insert_at(
-            &mut self.entries,
-            place,
-            slot as usize,
-            before as usize,
-            slot_of(with),
-        ) {
+        match self
+            .objects
+            .insert_item(oref.0, slot as usize, before as usize, slot_of(with))
+        {
             None => Ok(()),
             Some(item) => Err((fill_of(item), NoMemory)),
         }
@@ -189,12 +197,12 @@ impl Table {
     pub fn drop_member(&mut self, oref: Oref, slot: u32, member: Oref)
         requires live { IsLive self.old oref.0 }
         requires there { HasMember self.old oref.0 slot member.0 }
-        ensures { DropsMember self.old self.new oref.0 slot member.0 }
+        ensures memory { DropsMember self.old self.new oref.0 slot member.0 }
+        ensures holds { (n : ℕ) → outside_of self.new n ≡ outside_of self.old n }
     {
-        let place = place_of(self.entries.as_slice(), oref.0).unwrap();
-        drop_at(&mut self.entries, place, slot as usize, member.0);
-        give_back(&mut self.entries, member.0);
-        release(&mut self.entries, &mut self.released);
+        self.objects.drop_member(oref.0, slot as usize, member.0);
+        self.objects.lower(member.0);
+        release(&mut self.objects, &mut self.released);
     }
 
     /// The live object with this id in this extent. It takes no memory.
@@ -202,7 +210,7 @@ impl Table {
         ensures found { IfSome result (λ o. IsSomeAnd (object_of o.0 self.now.objects) (HasKey extent.now id)) }
         ensures none { IfNone result (IsFree extent.now id self.now.objects) }
     {
-        match find_key(self.entries.as_slice(), extent, id) {
+        match self.objects.find_key(extent, id) {
             None => None,
             Some(number) => Some(Oref(number)),
         }
@@ -212,10 +220,7 @@ impl Table {
     pub fn get(&self, oref: Oref) -> Option<&Obj>
         ensures { option_copied result ≡ option_map (as_kept self.now.objects) (object_of oref.0 self.now.objects) }
     {
-        match place_of(self.entries.as_slice(), oref.0) {
-            None => None,
-            Some(place) => Some(&self.entries[place].obj),
-        }
+        self.objects.get(oref.0)
     }
 
     /// Gives the object an id in its extent, which no other live object there has. It takes no memory.
@@ -224,8 +229,7 @@ impl Table {
         requires free { (e : ClassName) → IfSome (object_of oref.0 self.old.objects) (λ o. o.extent ≡ Some e → IsFree e id self.old.objects) }
         ensures { self.new ≡ edited self.old oref.0 (with_id id) }
     {
-        let place = place_of(self.entries.as_slice(), oref.0).unwrap();
-        self.entries[place].obj.id = Some(id);
+        self.objects.set_id(oref.0, id);
     }
 
     /// Notes the level that the object is opened at. It takes no memory.
@@ -233,8 +237,7 @@ impl Table {
         requires { IsLive self.old oref.0 }
         ensures { self.new ≡ edited self.old oref.0 (with_level level) }
     {
-        let place = place_of(self.entries.as_slice(), oref.0).unwrap();
-        self.entries[place].obj.level = level;
+        self.objects.set_level(oref.0, level);
     }
 
     /// Marks the object as modified, or takes the mark away. It takes no memory.
@@ -242,8 +245,7 @@ impl Table {
         requires { IsLive self.old oref.0 }
         ensures { self.new ≡ edited self.old oref.0 (with_mark modified) }
     {
-        let place = place_of(self.entries.as_slice(), oref.0).unwrap();
-        self.entries[place].obj.modified = modified;
+        self.objects.set_modified(oref.0, modified);
     }
 
     /// How many objects are live. It takes no memory.
@@ -252,7 +254,7 @@ impl Table {
         ensures sound { IsSound self.now }
         ensures held { AllByRecursion (λ o. 0 < holders self.now.objects o) self.now.objects }
     {
-        self.entries.len()
+        self.objects.len()
     }
 
     /// What is told of the objects that were released since it was cleared, in this order. It takes

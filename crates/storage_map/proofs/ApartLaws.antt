@@ -62,7 +62,7 @@ all_at p (e ∷ es) all n h = by (eq_by_cmp node_cmp n e.0) refl h (all_at p es 
     by false t h' rest = rest h'
 
 -- of nodes that pass a test none covers n
-none_kept : (n : Node) (test : Node → Bool) (whole es : NodePairs) → ((m : Node) → has m whole ≡ true → test m ≡ true → covers m n ≡ false) → ((m : Node) → has m es ≡ true → has m whole ≡ true)
+pub none_kept : (n : Node) (test : Node → Bool) (whole es : NodePairs) → ((m : Node) → has m whole ≡ true → test m ≡ true → covers m n ≡ false) → ((m : Node) → has m es ≡ true → has m whole ≡ true)
     → list_any (λ k. covers k n) (map (λ e. e.0) (filter (λ e. test e.0) es)) ≡ false
 none_kept n test whole [] safe found = refl
 none_kept n test whole (e ∷ es) safe found =
@@ -91,7 +91,7 @@ same_front (x ∷ xs) (y ∷ ys) h le =
 eq_tie : (a b : List ℕ) → eq_by_cmp text_cmp a b ≡ true → a ≡ b
 eq_tie a b h = one_key (λ x y e. text_tie-is x y e) a b h
 
-same_covered : (k n : Node) → covers k n ≡ true → length n.subs ≤ length k.subs → k ≡ n
+pub same_covered : (k n : Node) → covers k n ≡ true → length n.subs ≤ length k.subs → k ≡ n
 unfolding covers
 same_covered k n h le =
     let g = eq_tie k.global n.global (and_first (eq_by_cmp text_cmp k.global n.global) (is_front k.subs n.subs) h) in

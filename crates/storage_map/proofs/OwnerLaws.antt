@@ -52,7 +52,7 @@ extent_found names extent (c ∷ cs) h = by (is_with (extent.0 ++ 68 ∷ []) c.n
     by false e true d any rest = let no = is_here d in cc
     by false e false d any rest = rest any
 
-id_back : (id : List ℕ) → IsId id → length id ≡ 1 → id_of_sub (sub_of (id_text id)) ≡ Some id
+pub id_back : (id : List ℕ) → IsId id → length id ≡ 1 → id_of_sub (sub_of (id_text id)) ≡ Some id
 id_back [] h one = absurd h
 id_back (zero ∷ []) h one = let low : 1 ≤ 0 = h.0 in absurd (omega (arith, low))
 id_back (suc n ∷ []) h one = ap (λ o. id_of_sub (sub_by (decimal (suc n)) o)) (whole_of-printed (decimal (suc n)) (pos (suc n)) h.1 refl)

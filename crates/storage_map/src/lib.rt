@@ -17,4 +17,4 @@ pub use law::{
     rows_belong_to_their_key,
 };
 pub use row::{data_node, row_class};
-pub use row_nodes::{row_list, rows};
+pub use row_nodes::{element_node, named_below, row_list, rows};

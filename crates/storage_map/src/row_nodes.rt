@@ -17,8 +17,8 @@ use schema_kinds::{Class, Field, FieldPairs, Key, Kind, Prop, Record, Schema, sh
 use sqlite_items::Items;
 use std::alloc::Global;
 
-/// The node below another by one subscript that is a name.
-fn named_below(alloc: Global, row: &Node, name: &[u8]) -> Result<Node, NoMemory>
+/// The node below another by one subscript that is a name. It fails only for want of memory.
+pub fn named_below(alloc: Global, row: &Node, name: &[u8]) -> Result<Node, NoMemory>
     ensures { IfOk result (λ node. node ≡ node_below row.now (Str name.now ∷ [])) }
 {
     let mut node = row.copy(alloc)?;
@@ -26,8 +26,8 @@ fn named_below(alloc: Global, row: &Node, name: &[u8]) -> Result<Node, NoMemory>
     Ok(node)
 }
 
-/// The node of an element of an array.
-fn element_node(alloc: Global, row: &Node, name: &[u8], key: &Sub) -> Result<Node, NoMemory>
+/// The node of an element of an array below a row. It fails only for want of memory.
+pub fn element_node(alloc: Global, row: &Node, name: &[u8], key: &Sub) -> Result<Node, NoMemory>
     ensures { IfOk result (λ node. node ≡ node_below row.now (Str name.now ∷ key.now ∷ [])) }
 {
     let mut node = row.copy(alloc)?;

@@ -3,13 +3,10 @@
 //! times, and prints whether the store replied as a plain model of it does.
 #![tactic(auto)]
 
-mod asks;
+mod asked;
 mod cases;
 mod failure;
-mod holds;
-mod levels;
 mod names;
-mod plain;
 mod replay;
 mod tell;
 

@@ -1,7 +1,6 @@
-use Rattle.std.proofs.Common.{◌≡◌, ◌++◌, ◌∷◌, [], List, Some, ap, sym, ◌∙◌, slice_set}
-use Rattle.std.specs.List.{slice_get}
+use Rattle.std.proofs.Common.{List, Some, ap, ◌∙◌, slice_set}
 use Rattle.oref_table.specs.declared.slot.Slot.{Slot}
-use Rattle.oref_table.specs.declared.slot.Slot.TheVariants.{Items, Target}
+use Rattle.oref_table.specs.declared.slot.Slot.TheVariants.{Items}
 use Rattle.oref_table.proofs.SetLaws.{set-set, set-same}
 use Rattle.oref_table.proofs.items.insert_into.Goals as goal
 

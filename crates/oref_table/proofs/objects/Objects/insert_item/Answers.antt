@@ -1,0 +1,13 @@
+use Rattle.std.specs.BinaryHeap.{heap_items, heap_len, heap_capacity}
+use Rattle.oref_table.specs.Exchanges.{HasItemsAt}
+use Rattle.oref_table.proofs.RowLaws.{row-slots, inserted-kept, inserts-first}
+use Rattle.oref_table.proofs.objects.Objects.insert_item.Goals as goal
+
+pub insert_item-requires : goal.insert_item-requires
+insert_item-requires c = row-slots (HasItemsAt c.args.at c.args.before) c.args.number c.self.inside.rows.entries c.args.self.now c.self.view_is c.requires
+
+pub invariant_of-self : goal.invariant_of-self
+invariant_of-self c = inserted-kept c.args.number c.args.at c.args.before c.args.item c.self.inside.rows.entries c.insert_item.new.rows.entries (heap_items c.self.inside.waiting) (heap_len c.self.inside.waiting) (heap_capacity c.self.inside.waiting) c.insert_item.result c.insert_item.ensures.added c.insert_item.ensures.refused c.self.invariant
+
+pub returns-clause-added : goal.returns-clause-added
+returns-clause-added c = λ e. inserts-first c.args.number c.args.at c.args.before c.args.item c.self.inside.rows.entries c.insert_item.new.rows.entries c.args.self.now c.self.view_is (c.insert_item.ensures.added e)

@@ -1,0 +1,12 @@
+use Rattle.std.proofs.Common.{ap, ◌∙◌}
+use Rattle.std.specs.BinaryHeap.{heap_items, heap_len, heap_capacity}
+use Rattle.oref_table.specs.Entries.{is_entry, with_entry_id}
+use Rattle.oref_table.specs.Memory.{at_first}
+use Rattle.oref_table.proofs.RowLaws.{rows-kept}
+use Rattle.oref_table.proofs.objects.Objects.set_id.Goals as goal
+
+pub invariant_of-self : goal.invariant_of-self
+invariant_of-self c = rows-kept c.self.inside.rows.entries c.set_id.new.rows.entries (heap_items c.self.inside.waiting) (heap_len c.self.inside.waiting) (heap_capacity c.self.inside.waiting) c.set_id.ensures.idle c.self.invariant
+
+pub returns : goal.returns
+returns c = c.set_id.ensures.entries ∙ ap (at_first (is_entry c.args.number) (with_entry_id c.args.id)) c.self.view_is

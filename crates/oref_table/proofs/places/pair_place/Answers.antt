@@ -1,0 +1,14 @@
+use Rattle.std.proofs.Common.{rules}
+use Rattle.std.proofs.lemmas.Fn.{always_returns_same}
+use Rattle.obj_kinds.specs.SubOrder.{sub_cmp}
+use Rattle.obj_kinds.specs.OrderLaws.{sub_total}
+use Rattle.obj_kinds.proofs.Sorted.{searched}
+use Rattle.oref_table.proofs.places.pair_place.Goals as goal
+
+-- the closure compares the pair's key with the one that is sought
+pub returns : goal.returns
+returns c =
+    let facts = c.binary_search_by.ensures in
+    let places = facts.position (λ e. sub_cmp e.0 c.args.key.now) (always_returns_same _ _ _ (λ a r h called. search rules)) in
+    let found = searched sub_cmp sub_total c.args.pairs.now c.requires c.args.key.now _ facts.bound places in
+    record { found = found.found; absent = found.absent }

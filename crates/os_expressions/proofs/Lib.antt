@@ -1,0 +1,3 @@
+pub mod GrammarFits
+pub mod RuleReading
+pub mod ScriptTurns

@@ -1,0 +1,7 @@
+pub mod ScriptBytes
+pub mod ScriptKinds
+pub mod ScriptModes
+pub mod ScriptWords
+pub mod ScriptPieces
+pub mod ScriptLex
+pub mod ScriptTongue

@@ -1,0 +1,5 @@
+pub mod Views
+pub mod Rules
+pub mod Seats
+pub mod Sent
+pub mod Numbered

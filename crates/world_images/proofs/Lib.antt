@@ -1,0 +1,3 @@
+pub mod EntryLaws
+pub mod ImageLaws
+pub mod TurnLaws
