@@ -3,7 +3,6 @@ use Rattle.std.proofs.Common.{◌≡◌, ℕ, zero, suc, ◌<◌, ◌≤◌, Lis
 use Rattle.obj_kinds.specs.declared.op.Reply.{Reply}
 use Rattle.store_calls.specs.Calls.{Call, Give, Ask, Tell, Cut, bind, Tried, Got, Lost, then, then_on, Round, Again, Ends, round, turns, run, within}
 
-
 pub within_bind : {A B : Type 0} (u : ℕ) (c : Call A) (f g : A → Call B) → ((a : A) (v : ℕ) → v ≤ u → within v (f a) ≡ within v (g a)) → within u (bind c f) ≡ within u (bind c g)
 within_bind u (Give a) f g h = h a u (omega arith)
 within_bind u (Tell x c) f g h = ap (λ d. Tell x d) (within_bind u c f g h)

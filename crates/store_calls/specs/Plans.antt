@@ -2,7 +2,7 @@
 use Rattle.std.specs.Prelude.{◌≡◌, ℕ, suc, ◌<◌, ◌≤◌, List, [], ◌∷◌, ◌++◌, length}
 use Rattle.obj_kinds.specs.declared.op.Op.{Op}
 use Rattle.obj_kinds.specs.declared.op.Reply.{Reply}
-use Rattle.store_calls.specs.Calls.{Call, Tag, Tried, Got, Round, Again, Turn, Awaits, Gives, run}
+use Rattle.store_calls.specs.Calls.{Call, Tag, Tried, Got, Round, Again, Turn, Awaits, Gives, run, asked}
 
 -- a call, for each number of turns that its walks may have
 abbrev pub Bounded : Type 0 → Type 0
@@ -35,3 +35,7 @@ Same c d = (most : ℕ) (rs : List Reply) → length rs ≤ most → run (c most
 -- each turn of a walk that isn't the last takes a reply
 abbrev pub TakesReplies : {S A : Type 0} → (S → Call (Tried (Round S A))) → Type 0
 TakesReplies {S} {A} body = (s s' : S) (rs rest : List Reply) → run (body s) rs ≡ Gives (Got (Again s')) rest → length rest < length rs
+
+-- what is asked after some replies comes first in what is asked after more
+abbrev pub AsksGoOn : {A : Type 0} → Call A → Type 0
+AsksGoOn c = (rs qs : List Reply) → (more : List Op) × (asked c (rs ++ qs) ≡ asked c rs ++ more)

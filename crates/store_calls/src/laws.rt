@@ -6,7 +6,7 @@ ghost use Rattle.obj_kinds.specs.declared.value.Value.{Value};
 ghost use Rattle.obj_kinds.specs.declared.op.Op.{Op};
 ghost use Rattle.obj_kinds.specs.declared.op.Reply.{Reply};
 ghost use Rattle.store_calls.specs.Calls.{Call, Tag, Awaits, Tried, Round, bind, turns, run, go_on, within};
-ghost use Rattle.store_calls.specs.Plans.{Bounded, IsAfter, IsAfterAll, AsksFor, Tells, SaysNext, TakesReplies};
+ghost use Rattle.store_calls.specs.Plans.{Bounded, IsAfter, IsAfterAll, AsksFor, Tells, SaysNext, TakesReplies, AsksGoOn};
 ghost use Rattle.store_calls.specs.WalkPlan.{WalkPhase, walk_to_come, walk_says, walk_takes, is_walking};
 
 /// The law of parts: a call that is one part and then another does the second on the replies that the first left.
@@ -25,6 +25,12 @@ pub fn a_plan_within_a_plan_keeps_its_promise<A, B>(_inner: &A, _outer: &B)
 #[tactic(auto, using(crate::proofs::TurnRules::turns_enough))]
 pub fn walks_need_a_turn_for_each_reply<S, A>(_state: &S, _answer: &A)
     ensures { (body : S → Call (Tried (Round S A))) → TakesReplies body → (m n : ℕ) (s : S) (rs : List Reply) → length rs < m → length rs < n → run (turns m body s) rs ≡ run (turns n body s) rs }
+{}
+
+/// The law of what is asked: with more replies a call asks more, and what it asked before stays.
+#[tactic(auto, using(crate::proofs::AskedRules::goes_on))]
+pub fn what_is_asked_goes_on<A>(_answer: &A)
+    ensures { (c : Call A) → AsksGoOn c }
 {}
 
 /// The law of units: with fewer replies than units a call does what it does without a limit.

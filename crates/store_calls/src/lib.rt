@@ -5,7 +5,8 @@
 mod laws;
 
 pub use laws::{
-    a_part_has_the_replies_that_are_left, a_plan_asks_within_a_process, a_plan_ends_within_a_process,
-    a_plan_within_a_plan_keeps_its_promise, units_show_only_where_they_end, walks_keep_their_plan,
-    walks_need_a_turn_for_each_reply,
+    a_part_has_the_replies_that_are_left, a_plan_asks_within_a_process,
+    a_plan_ends_within_a_process, a_plan_within_a_plan_keeps_its_promise,
+    units_show_only_where_they_end, walks_keep_their_plan, walks_need_a_turn_for_each_reply,
+    what_is_asked_goes_on,
 };
