@@ -19,3 +19,4 @@ pub mod InsertLaws
 pub mod MemberLaws
 pub mod PlaceLaws
 pub mod RowLaws
+pub mod ElementLaws

@@ -1,9 +1,10 @@
-ghost use Rattle.std.specs.Prelude.{ℕ, ◌≡◌, ◌+◌, ◌<◌, ◌≤◌, ◌^◌, ◌↔◌, List, Some, None, insert, slice_get, slice_set, IfOk, IfErr, OnOk, OnErr, IsErr};
+ghost use Rattle.std.specs.Prelude.{IsOk, ℕ, ◌≡◌, ◌+◌, ◌<◌, ◌≤◌, ◌^◌, ◌↔◌, List, Some, None, insert, slice_get, slice_set, IfOk, IfErr, OnOk, OnErr, IsErr};
 ghost use Rattle.std.specs.List.{AllByRecursion};
 ghost use Rattle.std.specs.Map.{lookup};
 ghost use Rattle.std.specs.BTreeMap.{is_at};
 ghost use Rattle.std.specs.Ordering.{nat_cmp};
 ghost use Rattle.obj_kinds.specs.declared.memory.Lack.TheVariants.{Count};
+ghost use Rattle.oref_table.specs.declared.fill.Place.TheVariants.{Slot as AtSlot};
 ghost use Rattle.oref_table.specs.declared.obj.Entry.{Entry};
 ghost use Rattle.oref_table.specs.declared.obj.Obj.{Obj};
 ghost use Rattle.oref_table.specs.declared.slot.Slot.{Slot};
@@ -81,8 +82,10 @@ fn raise_count(obj: &mut Obj) -> Result<(), Lack>
     ensures err { IfErr result (λ e. (e ≡ Count) × (obj.new ≡ obj.old)) }
     ensures count { IsErr result ↔ (2 ^ 64 ≤ obj.old.count + 1) }
 {
-    let count = obj.count.checked_add(1).ok_or(Lack::Count)?;
-    obj.count = count;
+    if obj.is_full() {
+        return Err(Lack::Count);
+    }
+    obj.count += 1;
     Ok(())
 }
 
@@ -103,6 +106,7 @@ fn fill_obj(alloc: Global, obj: &mut Obj, at: &Place, with: Fill) -> Result<Slot
     requires { Takes at.now with obj.old.slots }
     ensures ok { IfOk result (λ out. (slots : List Slot) × (obj.new ≡ record obj.old { slots = slots }) × IsFilling at.now with obj.old.slots slots (refs_of out)) }
     ensures err { IfErr result (λ back. (back ≡ with) × (obj.new ≡ obj.old)) }
+    ensures slot { (s : ℕ) → at.now ≡ AtSlot s → IsOk result }
 {
     fill_slots(alloc, &mut obj.slots, at, with)
 }
@@ -119,6 +123,7 @@ pub fn fill(
     requires { (v : Obj) × (lookup (is_at (nat_cmp number)) rows.old.entries ≡ Some v) × Takes at.now with v.slots }
     ensures ok { IfOk result (λ out. FillsRow at.now with number rows.old.entries rows.new.entries (refs_of out)) }
     ensures err { IfErr result (λ back. (back ≡ with) × (rows.new.entries ≡ rows.old.entries)) }
+    ensures slot { (s : ℕ) → at.now ≡ AtSlot s → IsOk result }
 {
     match rows.get_mut(&number) {
         None => Err(with),

@@ -19,7 +19,10 @@ mod slot;
 mod table;
 
 pub use fill::{Fill, Place};
-pub use laws::{drops_have_one_end, holds_outside_are_accounted_for, what_holds_itself_up_stays};
+pub use laws::{
+    drops_have_one_end, elements_stay_in_order, holds_outside_are_accounted_for,
+    what_holds_itself_up_stays,
+};
 pub use obj::{Freed, Obj, Released};
 pub use oref::{Held, Oref};
 pub use slot::{Orefs, Slot, SlotPairs, Slots};

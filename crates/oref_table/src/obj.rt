@@ -1,4 +1,4 @@
-ghost use Rattle.std.specs.Prelude.{◌≡◌};
+ghost use Rattle.std.specs.Prelude.{◌+◌, ◌≤◌, ◌^◌, ◌↔◌, IsTrue};
 
 use crate::slot::Slots;
 use obj_kinds::{ClassName, Id};
@@ -20,6 +20,15 @@ pub struct Obj {
     pub slots: Slots,
     /// How many places in slots and how many holds outside name it.
     pub count: u64,
+}
+
+impl Obj {
+    /// Whether it has as many holders as can be counted, 2^64 - 1: a further hold is refused then.
+    pub fn is_full(&self) -> bool
+        ensures { IsTrue result ↔ (2 ^ 64 ≤ self.now.count + 1) }
+    {
+        self.count == u64::MAX
+    }
 }
 
 /// What is told of an object that was released.

@@ -1,7 +1,8 @@
-ghost use Rattle.std.specs.Prelude.{◌≡◌, ◌+◌, ◌<◌, ◌≤◌, ◌^◌, ◌↔◌, ◌++◌, ◌∷◌, [], List, Option, Some, None, insert, length, slice_get, slice_set, IfSome, IfNone, IfOk, IfErr, OnOk, OnErr, IsErr, IsSome};
+ghost use Rattle.std.specs.Prelude.{ℕ, IsOk, ◌≡◌, ◌+◌, ◌<◌, ◌≤◌, ◌^◌, ◌↔◌, ◌++◌, ◌∷◌, [], List, Option, Some, None, insert, length, slice_get, slice_set, IfSome, IfNone, IfOk, IfErr, OnOk, OnErr, IsErr, IsSome};
 ghost use Rattle.std.specs.List.{AllByRecursion};
 ghost use Rattle.std.specs.Option.{option_copied, option_map};
 ghost use Rattle.obj_kinds.specs.declared.memory.Lack.TheVariants.{Count};
+ghost use Rattle.oref_table.specs.declared.fill.Place.TheVariants.{Slot as AtSlot};
 ghost use Rattle.oref_table.specs.declared.obj.Entry.{Entry};
 ghost use Rattle.oref_table.specs.declared.oref.Oref.{Oref};
 ghost use Rattle.oref_table.specs.declared.slot.Slot.{Slot};
@@ -141,6 +142,7 @@ impl Objects {
         requires { (e : Entry) × (first_that (is_entry number) self.old ≡ Some e) × Takes at.now with e.obj.slots }
         ensures ok { IfOk result (λ out. FillsFirst at.now with number self.old self.new (refs_of out)) }
         ensures err { IfErr result (λ back. (back ≡ with) × (self.new ≡ self.old)) }
+        ensures slot { (s : ℕ) → at.now ≡ AtSlot s → IsOk result }
     {
         edits::fill(alloc, &mut self.rows, number, at, with)
     }

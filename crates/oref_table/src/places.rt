@@ -1,4 +1,4 @@
-ghost use Rattle.std.specs.Prelude.{◌≡◌, ◌≢◌, ◌<◌, ◌≤◌, [], ◌∷◌, ◌++◌, List, Some, None, length, slice_get, slice_set, slice_index_or, insert, remove, IfOk, IfErr, OnOk, IsTrue, IsSome};
+ghost use Rattle.std.specs.Prelude.{ℕ, IsOk, ◌≡◌, ◌≢◌, ◌<◌, ◌≤◌, [], ◌∷◌, ◌++◌, List, Some, None, length, slice_get, slice_set, slice_index_or, insert, remove, IfOk, IfErr, OnOk, IsTrue, IsSome};
 ghost use Rattle.std.specs.FinMap.{find, put, is_sorted};
 ghost use Rattle.obj_kinds.specs.declared.sub.Sub.{Sub};
 ghost use Rattle.obj_kinds.specs.SubOrder.{sub_cmp};
@@ -6,6 +6,7 @@ ghost use Rattle.obj_kinds.specs.Search.{IsHit, IsGap};
 ghost use Rattle.oref_table.specs.declared.oref.Oref.{Oref};
 ghost use Rattle.oref_table.specs.declared.slot.Slot.{Slot};
 ghost use Rattle.oref_table.specs.declared.slot.Slot.TheVariants.{Target, Items, Map, Members};
+ghost use Rattle.oref_table.specs.declared.fill.Place.TheVariants.{Slot as AtSlot};
 ghost use Rattle.oref_table.specs.declared.fill.Fill.TheVariants.{Nothing, To};
 ghost use Rattle.oref_table.specs.Refs.{refs_of, refs_in, refs_of_pairs};
 ghost use Rattle.oref_table.specs.Memory.{without_first};
@@ -327,6 +328,7 @@ fn fill_part(alloc: Global, old: Slot, at: &Place, with: Fill) -> (Slot, Result<
     requires { PartTakes at.now with old }
     ensures ok { IfOk result.1 (λ out. PartFills at.now with old result.0 × IsExchange (refs_of old) (passed with) (refs_of result.0) (refs_of out)) }
     ensures err { IfErr result.1 (λ back. (back ≡ with) × (result.0 ≡ old)) }
+    ensures slot { (s : ℕ) → at.now ≡ AtSlot s → IsOk result.1 }
 {
     match at {
         Place::Slot(_) => (slot_of(with), Ok(old)),
@@ -342,6 +344,7 @@ pub fn fill_slots(alloc: Global, slots: &mut Slots, at: &Place, with: Fill) -> R
     requires { Takes at.now with slots.old }
     ensures ok { IfOk result (λ out. Fills at.now with slots.old slots.new × IsExchange (refs_in slots.old) (passed with) (refs_in slots.new) (refs_of out)) }
     ensures err { IfErr result (λ back. (back ≡ with) × (slots.new ≡ slots.old)) }
+    ensures slot { (s : ℕ) → at.now ≡ AtSlot s → IsOk result }
 {
     let slot = slot_number(at) as usize;
     let old = slots.replace(slot, Slot::Target(None));

@@ -1,4 +1,4 @@
-ghost use Rattle.std.specs.Prelude.{ℕ, ◌≡◌, ◌≢◌, ◌+◌, ◌-◌, ◌<◌, ◌≤◌, ◌^◌, ◌↔◌, [], ◌∷◌, length, IfOk, OnOk, IfErr, OnErr, IsErr, IfSome, IfNone, IsSomeAnd};
+ghost use Rattle.std.specs.Prelude.{ℕ, IsOk, ◌≡◌, ◌≢◌, ◌+◌, ◌-◌, ◌<◌, ◌≤◌, ◌^◌, ◌↔◌, [], ◌∷◌, length, IfOk, OnOk, IfErr, OnErr, IsErr, IfSome, IfNone, IsSomeAnd};
 ghost use Rattle.std.specs.List.{AllByRecursion};
 ghost use Rattle.std.specs.Option.{option_copied, option_map};
 ghost use Rattle.obj_kinds.specs.declared.name.ClassName.{ClassName};
@@ -11,6 +11,7 @@ ghost use Rattle.oref_table.specs.Memory.{outside_of, loosed, edited, tighten, w
 ghost use Rattle.oref_table.specs.Dropping.{dropped};
 ghost use Rattle.oref_table.specs.Filling.{InsertsItem, DropsMember, HasItems, HasMember, IsHeldFor, passed};
 ghost use Rattle.oref_table.specs.Places.{MayFill, IsFilledTo};
+ghost use Rattle.oref_table.specs.declared.fill.Place.TheVariants.{Slot as AtSlot};
 ghost use Rattle.oref_table.specs.declared.fill.Fill.TheVariants.{Nothing};
 
 use crate::counts::give_up;
@@ -64,6 +65,7 @@ impl Table {
 
     /// A new object with the next number, no mark and one hold outside. The room to tell of its release is taken
     /// here. `Count` where no number is left below 2^64, else `Memory` for want of memory; the table is then as before.
+    /// It costs a logarithm of the number of live objects.
     pub fn make(
         &mut self,
         class: ClassName,
@@ -97,7 +99,8 @@ impl Table {
         Ok(Held { number })
     }
 
-    /// One hold more of a live object. It takes no memory: `Count` where the object has 2^64 - 1 holders already.
+    /// One hold more of a live object. It takes no memory: `Count` where the object has 2^64 - 1 holders already. It costs
+    /// a logarithm.
     pub fn hold(&mut self, oref: Oref) -> Result<Held, Lack>
         requires { IsLive self.old oref.0 }
         ensures ok { OnOk result (self.new ≡ edited self.old oref.0 tighten) }
@@ -111,7 +114,8 @@ impl Table {
         Ok(Held { number: oref.0 })
     }
 
-    /// Gives the hold back, and releases all that nothing holds from then on. It takes no memory.
+    /// Gives the hold back, and releases all that nothing holds from then on. It takes no memory, and costs a logarithm,
+    /// and one for each object that it releases and for each OREF in the slots of these.
     pub fn let_go(&mut self, held: Held)
         requires { 0 < outside_of self.old held.number }
         ensures memory { self.new ≡ dropped (loosed self.old (held.number ∷ [])) }
@@ -142,9 +146,11 @@ impl Table {
     }
 
     /// Fills the place, and releases all that nothing holds from then on. An item is put in the place of another or,
-    /// where the place is the number of items, at the end, and `Nothing` takes it out; at a slot `Nothing` leaves no id;
-    /// among members an object that isn't one yet is added. For want of memory it hands back what was to stand there,
-    /// and the table is as before.
+    /// where the place is the number of items, at the end, and `Nothing` takes it out; an element of an array takes the
+    /// place of the one of its key, or stands among the others in the order of keys, and `Nothing` takes it out; at a
+    /// slot `Nothing` leaves no id; among members an object that isn't one yet is added. For want of memory it hands back
+    /// what was to stand there, and the table is as before; a slot takes none. It costs what `let_go` does, and in a
+    /// collection a move of what stands behind the place.
     pub fn fill(&mut self, oref: Oref, at: &Place, with: Fill) -> Result<(), (Fill, NoMemory)>
         requires live { IsLive self.old oref.0 }
         requires place { MayFill self.old oref.0 at.now with }
@@ -153,6 +159,7 @@ impl Table {
         ensures holds { OnOk result ((n : ℕ) → outside_of self.new n ≡ outside_of self.old n - times n (passed with)) }
         ensures err { OnErr result (self.new ≡ self.old) }
         ensures back { IfErr result (λ e. e.0 ≡ with) }
+        ensures slot { (s : ℕ) → at.now ≡ AtSlot s → IsOk result }
     {
         match self.objects.fill(self.alloc, oref.0, at, with) {
             Ok(out) => {
@@ -192,8 +199,8 @@ impl Table {
         }
     }
 
-    /// Takes the member out of the slot, and releases all that nothing holds from then on. It takes no
-    /// memory.
+    /// Takes the member out of the slot, and releases all that nothing holds from then on. It takes no memory. It costs
+    /// what `let_go` does, and looks at the members from the first on.
     pub fn drop_member(&mut self, oref: Oref, slot: u32, member: Oref)
         requires live { IsLive self.old oref.0 }
         requires there { HasMember self.old oref.0 slot member.0 }
@@ -205,7 +212,7 @@ impl Table {
         release(&mut self.objects, &mut self.released);
     }
 
-    /// The live object with this id in this extent. It takes no memory.
+    /// The live object with this id in this extent. It takes no memory, and looks at the live objects from the first on.
     pub fn by_id(&self, extent: &ClassName, id: Id) -> Option<Oref>
         ensures found { IfSome result (λ o. IsSomeAnd (object_of o.0 self.now.objects) (HasKey extent.now id)) }
         ensures none { IfNone result (IsFree extent.now id self.now.objects) }
@@ -216,7 +223,7 @@ impl Table {
         }
     }
 
-    /// The live object. It takes no memory.
+    /// The live object. It takes no memory, and costs a logarithm.
     pub fn get(&self, oref: Oref) -> Option<&Obj>
         ensures { option_copied result ≡ option_map (as_kept self.now.objects) (object_of oref.0 self.now.objects) }
     {

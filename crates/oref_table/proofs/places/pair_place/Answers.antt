@@ -10,5 +10,5 @@ pub returns : goal.returns
 returns c =
     let facts = c.binary_search_by.ensures in
     let places = facts.position (λ e. sub_cmp e.0 c.args.key.now) (always_returns_same _ _ _ (λ a r h called. search rules)) in
-    let found = searched sub_cmp sub_total c.args.pairs.now c.requires c.args.key.now _ facts.bound places in
+    let found = searched sub_cmp sub_total c.args.pairs.now c.requires c.args.key.now c.binary_search_by.result facts.bound places in
     record { found = found.found; absent = found.absent }

@@ -10,7 +10,6 @@ use Rattle.oref_table.specs.Memory.{outside_of}
 use Rattle.oref_table.specs.Refs.{times}
 use Rattle.oref_table.specs.Filling.{passed, slot_from}
 use Rattle.oref_table.specs.declared.slot.Slot.TheVariants.{Items}
-use Rattle.oref_table.specs.declared.slot.Slot.{Slot}
 use Rattle.oref_table.proofs.table.Table.insert_item.Goals as goal
 use Rattle.oref_table.proofs.table.Table.insert_item.Goals.{in-None, in-Some}
 

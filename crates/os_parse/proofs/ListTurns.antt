@@ -1,0 +1,34 @@
+-- The turns of the loops that read the arguments of commands.
+use Rattle.std.proofs.Common.{ℕ, refl}
+use Rattle.text_reading.proofs.PhraseShape.{fits, may_be_empty, begins, stops, is_some, some_kind}
+use Rattle.text_reading.proofs.PhraseLoops.{TurnLaws, turn_laws}
+use Rattle.script_tokens.specs.declared.token.Kind.TheVariants as k
+use Rattle.script_tokens.specs.ScriptKinds.{is, same_kind}
+use Rattle.script_tokens.specs.ScriptTongue.{tongue}
+use Rattle.script_tokens.proofs.AllKinds.{all_kinds}
+use Rattle.os_expressions.proofs.GrammarFits.{grammar_fits}
+use Rattle.os_expressions.specs.ScriptGrammar.{grammar, read, variable, member_name, class_name, global_name, opens, subscripts, args, args_given, counted_args, looking_args, ordering_args, subscripts_given, global, some_place, member, number, string, special, parens, function_word, function, looking_word, looked_args, looking_function, order_function, class_call, own, called, place_value, uncalled, primary, further_member, members, one_sign, signs, unsigned, operand, operator, further_operation, operations, expression, value, comma, close_args, further_arg, more_args, some_args, any_args, listed, arguments, miscount, closing, missing_place, looked_place, second_comma, second, looked_rest, looking, ordered_global, missing_global, ordered, ordering, further_name, first_name, more_names, names, called_member, called_members, some_called, own_method, own_property, own_callee, own_called, called_callee, uncalled_callee, callee, call, called_step, path_step, path_rest, property_path, place_property, place_target, own_path, own_target, object_target, some_target, assignment, further_assignment, more_assignments, assignments, some_output, further_output, more_outputs, outputs, further_call, more_calls, calls, further_place, more_places, places, shared, after_colon, asked, given_back, added, claim, further_claim, more_claims, claims, further_condition}
+
+pub assignments_turns : (i : ℕ) → TurnLaws tongue (is k.Comma) (λ x. read further_assignment (i, x))
+unfolding fits may_be_empty begins stops is_some some_kind same_kind variable member_name class_name global_name opens subscripts args args_given counted_args looking_args ordering_args subscripts_given global some_place member number string special parens function_word function looking_word looked_args looking_function order_function class_call own called place_value uncalled primary further_member members one_sign signs unsigned operand operator further_operation operations expression value comma close_args further_arg more_args some_args any_args listed arguments miscount closing missing_place looked_place second_comma second looked_rest looking ordered_global missing_global ordered ordering further_name first_name more_names names called_member called_members some_called own_method own_property own_callee own_called called_callee uncalled_callee callee call called_step path_step path_rest property_path place_property place_target own_path own_target object_target some_target assignment further_assignment
+assignments_turns i = turn_laws tongue all_kinds grammar grammar_fits (is k.Comma) further_assignment refl refl refl i
+
+pub outputs_turns : (i : ℕ) → TurnLaws tongue (is k.Comma) (λ x. read further_output (i, x))
+unfolding fits may_be_empty begins stops is_some some_kind same_kind variable member_name class_name global_name opens subscripts args args_given counted_args looking_args ordering_args subscripts_given global some_place member number string special parens function_word function looking_word looked_args looking_function order_function class_call own called place_value uncalled primary further_member members one_sign signs unsigned operand operator further_operation operations expression value comma close_args further_arg more_args some_args any_args listed arguments miscount closing missing_place looked_place second_comma second looked_rest looking ordered_global missing_global ordered ordering further_name first_name more_names names called_member called_members some_called own_method own_property own_callee own_called called_callee uncalled_callee callee call called_step path_step path_rest property_path place_property place_target own_path own_target object_target some_target assignment further_assignment more_assignments assignments some_output further_output
+outputs_turns i = turn_laws tongue all_kinds grammar grammar_fits (is k.Comma) further_output refl refl refl i
+
+pub calls_turns : (i : ℕ) → TurnLaws tongue (is k.Comma) (λ x. read further_call (i, x))
+unfolding fits may_be_empty begins stops is_some some_kind same_kind variable member_name class_name global_name opens subscripts args args_given counted_args looking_args ordering_args subscripts_given global some_place member number string special parens function_word function looking_word looked_args looking_function order_function class_call own called place_value uncalled primary further_member members one_sign signs unsigned operand operator further_operation operations expression value comma close_args further_arg more_args some_args any_args listed arguments miscount closing missing_place looked_place second_comma second looked_rest looking ordered_global missing_global ordered ordering further_name first_name more_names names called_member called_members some_called own_method own_property own_callee own_called called_callee uncalled_callee callee call called_step path_step path_rest property_path place_property place_target own_path own_target object_target some_target assignment further_assignment more_assignments assignments some_output further_output more_outputs outputs further_call
+calls_turns i = turn_laws tongue all_kinds grammar grammar_fits (is k.Comma) further_call refl refl refl i
+
+pub places_turns : (i : ℕ) → TurnLaws tongue (is k.Comma) (λ x. read further_place (i, x))
+unfolding fits may_be_empty begins stops is_some some_kind same_kind variable member_name class_name global_name opens subscripts args args_given counted_args looking_args ordering_args subscripts_given global some_place member number string special parens function_word function looking_word looked_args looking_function order_function class_call own called place_value uncalled primary further_member members one_sign signs unsigned operand operator further_operation operations expression value comma close_args further_arg more_args some_args any_args listed arguments miscount closing missing_place looked_place second_comma second looked_rest looking ordered_global missing_global ordered ordering further_name first_name more_names names called_member called_members some_called own_method own_property own_callee own_called called_callee uncalled_callee callee call called_step path_step path_rest property_path place_property place_target own_path own_target object_target some_target assignment further_assignment more_assignments assignments some_output further_output more_outputs outputs further_call more_calls calls further_place
+places_turns i = turn_laws tongue all_kinds grammar grammar_fits (is k.Comma) further_place refl refl refl i
+
+pub claims_turns : (i : ℕ) → TurnLaws tongue (is k.Comma) (λ x. read further_claim (i, x))
+unfolding fits may_be_empty begins stops is_some some_kind same_kind variable member_name class_name global_name opens subscripts args args_given counted_args looking_args ordering_args subscripts_given global some_place member number string special parens function_word function looking_word looked_args looking_function order_function class_call own called place_value uncalled primary further_member members one_sign signs unsigned operand operator further_operation operations expression value comma close_args further_arg more_args some_args any_args listed arguments miscount closing missing_place looked_place second_comma second looked_rest looking ordered_global missing_global ordered ordering further_name first_name more_names names called_member called_members some_called own_method own_property own_callee own_called called_callee uncalled_callee callee call called_step path_step path_rest property_path place_property place_target own_path own_target object_target some_target assignment further_assignment more_assignments assignments some_output further_output more_outputs outputs further_call more_calls calls further_place more_places places shared after_colon asked given_back added claim further_claim
+claims_turns i = turn_laws tongue all_kinds grammar grammar_fits (is k.Comma) further_claim refl refl refl i
+
+pub conditions_turns : (i : ℕ) → TurnLaws tongue (is k.Comma) (λ x. read further_condition (i, x))
+unfolding fits may_be_empty begins stops is_some some_kind same_kind variable member_name class_name global_name opens subscripts args args_given counted_args looking_args ordering_args subscripts_given global some_place member number string special parens function_word function looking_word looked_args looking_function order_function class_call own called place_value uncalled primary further_member members one_sign signs unsigned operand operator further_operation operations expression value comma close_args further_arg more_args some_args any_args listed arguments miscount closing missing_place looked_place second_comma second looked_rest looking ordered_global missing_global ordered ordering further_name first_name more_names names called_member called_members some_called own_method own_property own_callee own_called called_callee uncalled_callee callee call called_step path_step path_rest property_path place_property place_target own_path own_target object_target some_target assignment further_assignment more_assignments assignments some_output further_output more_outputs outputs further_call more_calls calls further_place more_places places shared after_colon asked given_back added claim further_claim more_claims claims further_condition
+conditions_turns i = turn_laws tongue all_kinds grammar grammar_fits (is k.Comma) further_condition refl refl refl i
