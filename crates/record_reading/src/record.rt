@@ -2,7 +2,6 @@ ghost use Rattle.std.specs.Prelude.{◌≡◌, IfOk, IfErr, None, option_map};
 ghost use Rattle.std.specs.List.{find, list_all};
 ghost use Rattle.obj_kinds.specs.Limits.{is_legal_node};
 ghost use Rattle.record_layout.specs.Rows.{below};
-ghost use Rattle.record_layout.specs.Rows.{data_node as row_of};
 ghost use Rattle.record_layout.specs.Reading.{Read};
 ghost use Rattle.record_reading.specs.Rows.{read_record};
 ghost use Rattle.record_reading.specs.Damage.{has_legal_entries as legal_entries, is_strange, unread_node, over, damage};
