@@ -4,3 +4,5 @@ pub mod FollowLaws
 pub mod FindLaws
 pub mod PartLaws
 pub mod CharLaws
+pub mod PieceLaws
+pub mod ListLaws

@@ -3,6 +3,9 @@ ghost use Rattle.obj_kinds.specs.declared.value.Value.{Value};
 ghost use Rattle.os_value.specs.Numbers.{floor, rest};
 ghost use Rattle.os_value.specs.Comparisons.{is_list, equal, is_behind};
 ghost use Rattle.os_value.specs.Places.{part};
+ghost use Rattle.os_value.specs.Pieces.{pieces, joined_by};
+ghost use Rattle.os_value.specs.Lists.{built, count_of};
+ghost use Rattle.obj_kinds.specs.Values.{as_value};
 
 /// A number is the floor of its quotient times the divisor and the rest of `#`, which is smaller
 /// than the divisor and has its sign or is 0. A quotient that is cut leaves less than the divisor
@@ -33,4 +36,14 @@ pub fn texts_in_order()
 pub fn parts_of_texts()
     ensures all { (text : List ℕ) → part (pos 1) (pos (length text)) text ≡ text }
     ensures beside { (text : List ℕ) (i j k : ℕ) → i ≤ j + 1 → j ≤ k → part (pos i) (pos j) text ++ part (pos (suc j)) (pos k) text ≡ part (pos i) (pos k) text }
+{}
+
+/// All pieces of a text, with the delimiter between them, are the text.
+pub fn pieces_of_texts()
+    ensures { (delimiter text : List ℕ) → 0 < length delimiter → joined_by delimiter (pieces delimiter text) ≡ text }
+{}
+
+/// A list that is built has as many items as it was built of.
+pub fn lists_of_items()
+    ensures { (items : List Value) (list : Value) → built items ≡ Ok list → count_of list ≡ Ok (as_value (pos (length items))) }
 {}

@@ -7,6 +7,7 @@ mod error;
 mod laws;
 mod lists;
 mod numbers;
+mod pieces;
 mod reading;
 mod texts;
 
@@ -16,7 +17,11 @@ pub use comparisons::{
     op_not, op_or,
 };
 pub use error::ValueError;
-pub use laws::{equal_values, parts_of_texts, quotients_and_rests, texts_in_order};
+pub use laws::{
+    equal_values, lists_of_items, parts_of_texts, pieces_of_texts, quotients_and_rests,
+    texts_in_order,
+};
 pub use lists::{fn_list, fn_list_build, fn_list_length};
+pub use pieces::fn_piece;
 pub use reading::truth;
 pub use texts::{fn_ascii, fn_char, fn_extract, fn_find, fn_length, op_join};

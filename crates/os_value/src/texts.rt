@@ -15,7 +15,8 @@ use memchr::memmem;
 use obj_kinds::{ErrorName, NoMemory, Text, Value, Values};
 use std::alloc::Global;
 
-fn text_value(alloc: Global, bytes: &[u8]) -> Result<Value, NoMemory>
+/// A value that is these bytes.
+pub fn text_value(alloc: Global, bytes: &[u8]) -> Result<Value, NoMemory>
     ensures { IfOk result (λ value. value ≡ Str bytes.now) }
 {
     let text = Text::from_slice(alloc, bytes)?;
@@ -72,14 +73,15 @@ pub fn before(place: i64) -> usize
 }
 
 /// How many bytes or items stand at places up to one, counted from 1.
-fn up_to(place: i64) -> usize
+pub fn up_to(place: i64) -> usize
     requires { IsWhole place }
     ensures { result ≡ up_to place }
 {
     if place < 0 { 0 } else { place as usize }
 }
 
-fn without_first(text: &[u8], count: usize) -> &[u8]
+/// A text without its first bytes.
+pub fn without_first(text: &[u8], count: usize) -> &[u8]
     ensures { result.now ≡ drop count text.now }
 {
     if count < text.len() {
@@ -89,7 +91,8 @@ fn without_first(text: &[u8], count: usize) -> &[u8]
     }
 }
 
-fn first_of(text: &[u8], count: usize) -> &[u8]
+/// The first bytes of a text.
+pub fn first_of(text: &[u8], count: usize) -> &[u8]
     ensures { result.now ≡ take count text.now }
 {
     if count < text.len() {
