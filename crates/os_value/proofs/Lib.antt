@@ -6,3 +6,4 @@ pub mod PartLaws
 pub mod CharLaws
 pub mod PieceLaws
 pub mod ListLaws
+pub mod LeastLaws

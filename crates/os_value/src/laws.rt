@@ -1,7 +1,7 @@
-ghost use Rattle.std.specs.Prelude.{◌≡◌, ◌≢◌, ◌↔◌, ℕ, suc, ◌+◌, ◌<◌, ◌≤◌, ℤ, pos, ◌+ℤ◌, ◌-ℤ◌, ◌*ℤ◌, ◌≤ℤ◌, ◌<ℤ◌, int_div, unsigned_abs, true, false, List, ◌++◌, length, Ok};
+ghost use Rattle.std.specs.Prelude.{◌≡◌, ◌≢◌, ◌↔◌, ℕ, suc, ◌+◌, ◌<◌, ◌≤◌, ℤ, pos, ◌+ℤ◌, ◌-ℤ◌, ◌*ℤ◌, ◌≤ℤ◌, ◌<ℤ◌, int_div, unsigned_abs, true, false, List, ◌++◌, length, take, drop, Some, None, Ok};
 ghost use Rattle.obj_kinds.specs.declared.value.Value.{Value};
 ghost use Rattle.os_value.specs.Numbers.{floor, rest};
-ghost use Rattle.os_value.specs.Comparisons.{is_list, equal, is_behind};
+ghost use Rattle.os_value.specs.Comparisons.{is_list, equal, is_behind, place_of};
 ghost use Rattle.os_value.specs.Places.{part};
 ghost use Rattle.os_value.specs.Pieces.{pieces, joined_by};
 ghost use Rattle.os_value.specs.Lists.{built, count_of};
@@ -36,6 +36,14 @@ pub fn texts_in_order()
 pub fn parts_of_texts()
     ensures all { (text : List ℕ) → part (pos 1) (pos (length text)) text ≡ text }
     ensures beside { (text : List ℕ) (i j k : ℕ) → i ≤ j + 1 → j ≤ k → part (pos i) (pos j) text ++ part (pos (suc j)) (pos k) text ≡ part (pos i) (pos k) text }
+{}
+
+/// What a search answers is the least place at which the text that is sought stands; where it answers none, there is no such
+/// place.
+pub fn finds_are_least()
+    ensures stands { (text sought : List ℕ) (at : ℕ) → place_of text sought ≡ Some at → take (length sought) (drop at text) ≡ sought }
+    ensures least { (text sought : List ℕ) (at k : ℕ) → 0 < length sought → place_of text sought ≡ Some at → k < at → take (length sought) (drop k text) ≢ sought }
+    ensures none { (text sought : List ℕ) (k : ℕ) → 0 < length sought → place_of text sought ≡ None → take (length sought) (drop k text) ≢ sought }
 {}
 
 /// All pieces of a text, with the delimiter between them, are the text.

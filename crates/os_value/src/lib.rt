@@ -18,8 +18,8 @@ pub use comparisons::{
 };
 pub use error::ValueError;
 pub use laws::{
-    equal_values, lists_of_items, parts_of_texts, pieces_of_texts, quotients_and_rests,
-    texts_in_order,
+    equal_values, finds_are_least, lists_of_items, parts_of_texts, pieces_of_texts,
+    quotients_and_rests, texts_in_order,
 };
 pub use lists::{fn_list, fn_list_build, fn_list_length};
 pub use pieces::fn_piece;
