@@ -83,7 +83,7 @@ module _ (o : ℕ) where
   set_counts x v (y ∷ vars) = by (bytes_eq y.name x) (set_counts x v vars)
     where
       by : (b : Bool) → count_vars o (with_var x v vars) + count_some o (value_in x vars) ≡ count_vars o vars + count o v
-        → count_vars o (cond b (record { name = y.name; value = v } ∷ vars) (y ∷ with_var x v vars)) + count_some o (cond b (Some y.value) (value_in x vars)) ≡ (count o y.value + count_vars o vars) + count o v
+          → count_vars o (cond b (record { name = y.name; value = v } ∷ vars) (y ∷ with_var x v vars)) + count_some o (cond b (Some y.value) (value_in x vars)) ≡ (count o y.value + count_vars o vars) + count o v
       by true e = omega arith
       by false e = omega (arith, e)
 
@@ -92,7 +92,7 @@ module _ (o : ℕ) where
   kill_counts x (y ∷ vars) = by (bytes_eq y.name x) (kill_counts x vars)
     where
       by : (b : Bool) → count_vars o (without_var x vars) + count_some o (value_in x vars) ≡ count_vars o vars
-        → count_vars o (cond b vars (y ∷ without_var x vars)) + count_some o (cond b (Some y.value) (value_in x vars)) ≡ count o y.value + count_vars o vars
+          → count_vars o (cond b vars (y ∷ without_var x vars)) + count_some o (cond b (Some y.value) (value_in x vars)) ≡ count o y.value + count_vars o vars
       by true e = omega arith
       by false e = omega (arith, e)
 

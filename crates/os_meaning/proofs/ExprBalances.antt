@@ -90,18 +90,18 @@ module _ (o : ℕ) where
       valued (s.OwnPropertyMethod property name args) vars go k b =
           checks o (object_here this) line _ _ (λ object. checks o (object_in object) line _ _ (λ number. asks o _ _ _ (λ a. was_read o line a _ _ _
           (λ v. kept o _ _ (omega arith) (valueds args [] vars _ (k + count o v) (λ vs ws.
-              called o (Whole v) name vs line _ _ (λ r. lost_each o vs _ (k + count o r + count o v + count_vars o ws) _ (omega arith) (lost o v _ (k + count o r + count_vars o ws) _ (omega arith) (b r ws))))))
+          called o (Whole v) name vs line _ _ (λ r. lost_each o vs _ (k + count o r + count o v + count_vars o ws) _ (omega arith) (lost o v _ (k + count o r + count_vars o ws) _ (omega arith) (b r ws))))))
           (kept o _ _ (omega arith) (valueds args [] vars _ k (λ vs ws.
-              called o (Collection number property) name vs line _ _ (λ r. lost_each o vs _ (k + count o r + count_vars o ws) _ (omega arith) (b r ws))))))))
+          called o (Collection number property) name vs line _ _ (λ r. lost_each o vs _ (k + count o r + count_vars o ws) _ (omega arith) (b r ws))))))))
       valued (s.Property object name) vars go k b =
           valued object vars _ k (λ on ws. checks o _ line _ _ (λ number.
           asks o _ _ _ (λ a. got o line a _ _ (λ v. lost o on _ (k + count o v + count_vars o ws) _ (omega arith) (b v ws)))))
       valued (s.PropertyMethod object property name args) vars go k b =
           valued object vars _ k (λ on ws. checks o _ line _ _ (λ number. asks o _ _ _ (λ a. was_read o line a _ _ _
           (λ v. lost o on _ (k + count o v + count_vars o ws) _ (omega arith) (kept o _ _ (omega arith) (valueds args [] ws _ (k + count o v) (λ vs us.
-              called o (Whole v) name vs line _ _ (λ r. lost_each o vs _ (k + count o r + count o v + count_vars o us) _ (omega arith) (lost o v _ (k + count o r + count_vars o us) _ (omega arith) (b r us)))))))
+          called o (Whole v) name vs line _ _ (λ r. lost_each o vs _ (k + count o r + count o v + count_vars o us) _ (omega arith) (lost o v _ (k + count o r + count_vars o us) _ (omega arith) (b r us)))))))
           (kept o _ _ (omega arith) (valueds args [] ws _ (k + count o on) (λ vs us.
-              called o (Collection number property) name vs line _ _ (λ r. lost_each o vs _ (k + count o r + count o on + count_vars o us) _ (omega arith) (lost o on _ (k + count o r + count_vars o us) _ (omega arith) (b r us)))))))))
+          called o (Collection number property) name vs line _ _ (λ r. lost_each o vs _ (k + count o r + count o on + count_vars o us) _ (omega arith) (lost o on _ (k + count o r + count_vars o us) _ (omega arith) (b r us)))))))))
       valued (s.Method object name args) vars go k b =
           valued object vars _ k (λ on ws. kept o _ _ (omega arith) (valueds args [] ws _ (k + count o on) (λ vs us.
           called o (Whole on) name vs line _ _ (λ r. lost_each o vs _ (k + count o r + count o on + count_vars o us) _ (omega arith) (lost o on _ (k + count o r + count_vars o us) _ (omega arith) (b r us))))))
