@@ -34,6 +34,10 @@ value_text = fold-Value (List ℕ) value_step
 abbrev pub values_text : List Value → List ℕ
 values_text values = joined (map value_text values)
 
+-- a line without its line feed: the node, `=`, the value
+abbrev pub line_text : Node → Value → List ℕ
+line_text n v = node_text n ++ 61 ∷ value_text v
+
 -- the node, `=`, the value and a line feed
 unfoldable pub line_of : Node → Value → List ℕ
 line_of n v = node_text n ++ 61 ∷ value_text v ++ 10 ∷ []

@@ -4,5 +4,5 @@
 mod line;
 mod value;
 
-pub use line::{dump, push_line};
+pub use line::{dump, line_text, push_line};
 pub use value::push_value;

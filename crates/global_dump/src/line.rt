@@ -1,5 +1,5 @@
 ghost use Rattle.std.specs.Prelude.{◌≡◌, ◌++◌, OnOk, IfOk};
-ghost use Rattle.global_dump.specs.Lines.{line_of, dump_of};
+ghost use Rattle.global_dump.specs.Lines.{line_text as text_of_line, line_of, dump_of};
 
 use crate::value::push_value;
 use obj_kinds::{NoMemory, Node, Text, Value, push_node};
@@ -14,6 +14,17 @@ pub fn push_line(out: &mut Text, node: &Node, value: &Value) -> Result<(), NoMem
     out.push(b'=')?;
     push_value(out, value)?;
     out.push(b'\n')
+}
+
+/// The line of a node and its value, without its line feed. It fails only for want of memory.
+pub fn line_text(alloc: Global, node: &Node, value: &Value) -> Result<Text, NoMemory>
+    ensures { IfOk result (λ text. text ≡ text_of_line node.now value.now) }
+{
+    let mut out = Text::new(alloc);
+    push_node(&mut out, node)?;
+    out.push(b'=')?;
+    push_value(&mut out, value)?;
+    Ok(out)
 }
 
 /// The dump of nodes: one line each, in their order. It fails only for want of memory.

@@ -12,6 +12,8 @@ pub mod MakeLaws
 pub mod FillLaws
 pub mod OrderLaws
 pub mod KeyLaws
+pub mod KeyIndex
+pub mod IndexLaws
 pub mod OutsideLaws
 pub mod SetLaws
 pub mod Variants

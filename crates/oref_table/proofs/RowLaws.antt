@@ -1,5 +1,5 @@
 -- Objects by their numbers, and those that wait for release.
-use Rattle.std.proofs.Common.{◌≡◌, ◌≢◌, ℕ, ◌+◌, ◌-◌, ◌==◌, ◌<◌, ◌≤◌, cond, Bool, true, false, ◌||◌, Option, Some, None, List, [], ◌∷◌, ◌++◌, map, length, refl, ap, sym, subst, ◌∙◌, arith, zero, suc, length-append, append_assoc, insert, Result, Ok, Err, OnOk, IfOk, IfErr}
+use Rattle.std.proofs.Common.{◌≡◌, ◌≢◌, ℕ, ◌+◌, ◌-◌, ◌==◌, ◌<◌, ◌≤◌, cond, Bool, true, false, ◌||◌, Option, Some, None, List, [], ◌∷◌, ◌++◌, map, length, refl, ap, sym, subst, ◌∙◌, arith, zero, suc, length-append, insert, Result, Ok, Err, OnOk, IfOk, IfErr}
 use Rattle.std.specs.List.{AllByRecursion}
 use Rattle.std.specs.Option.{option_map}
 use Rattle.std.specs.List.Sorted.{IsStrictlySortedBy, IsPermutation}
@@ -24,9 +24,7 @@ use Rattle.oref_table.specs.Memory.{first_that, without_first, at_first}
 use Rattle.oref_table.specs.Entries.{is_entry, is_uncounted, lower_by, lowered, with_entry_slot, with_entry_slots}
 use Rattle.oref_table.specs.Filling.{is_member}
 use Rattle.oref_table.specs.Exchanges.{FillsRow, FillsFirst, InsertsRow, InsertsFirst, DropsRow, DropsFirst}
-use Rattle.oref_table.specs.Rows.{entry_of, entries_in, least_first, waits, AwaitsRelease, counted_rows, AreRows, is_idle, idle_in, IsRowEdit, IsKeyed}
-use Rattle.obj_kinds.specs.declared.name.ClassName.{ClassName}
-use Rattle.obj_kinds.specs.declared.id.Id.{Id}
+use Rattle.oref_table.specs.Rows.{entry_of, entries_in, least_first, waits, AwaitsRelease, counted_rows, AreRows, is_idle, idle_in, IsRowEdit}
 
 -- the order of numbers tells which are the same
 pub cmp-less : (x y : ℕ) → x < y → nat_cmp x y ≡ Less
@@ -125,7 +123,7 @@ lowered-absent n (p ∷ ps) g =
     absent-step n p (lowered (n ∷ []) (entries_in ps)) (entries_in ps) (p.0 == n) (lookup (is_at (nat_cmp n)) ps) refl (lowered-absent n ps)
     (subst (λ b. cond b (Some p.1) (lookup (is_at (nat_cmp n)) ps) ≡ None) (at-is n p.0) g)
 
-less-below : (x y : ℕ) → nat_cmp x y ≡ Less → x < y
+pub less-below : (x y : ℕ) → nat_cmp x y ≡ Less → x < y
 less-below x y h = by (compare x y)
   where
     by : Cases x y → x < y
@@ -534,33 +532,16 @@ inserts-first n at before item old new es is h = (numbered n h.0, h.1, entry-of-
 pub drops-first : (n at k : ℕ) (old new : List (ℕ × Obj)) (es : List Entry) → entries_in old ≡ es → DropsRow n at k old new → DropsFirst n at k es (entries_in new)
 drops-first n at k old new es is h = (numbered n h.0, h.1, entry-of-row n old es h.0 is h.2, h.3, h.4.entries ∙ ap (at_first (is_entry n) (with_entry_slot at (Members (without_first (is_member k) h.1)))) is)
 
-pub all-entries : (P : Obj → Type 0) (rows : List (ℕ × Obj)) → AllByRecursion (λ (p : ℕ × Obj). ¬ P p.1) rows → AllByRecursion (λ (e : Entry). ¬ P e.obj) (entries_in rows)
-all-entries P [] h = tt
-all-entries P (p ∷ ps) h = (h.0, all-entries P ps h.1)
+-- more room to note objects that wait
+pub roomier : (rows new : List (ℕ × Obj)) (ws vs : List (Reverse ℕ)) (long longer places more : ℕ) → new ≡ rows → vs ≡ ws → longer ≡ long → places ≤ more → AreRows rows ws long places → AreRows new vs longer more
+roomier rows new ws vs long longer places more is alike len wide a =
+    subst (λ ps. AreRows ps vs longer more) (sym is) (subst (λ xs. AreRows rows xs longer more) (sym alike) (record { rising = a.rising; awaited = a.awaited; order = a.order; room = omega (arith, a.room, len, wide) }))
 
--- ---- a search from the first row on
-
--- the rows so far, which haven't the key, and those that are left
-abbrev pub IsBehind : ClassName → Id → List (ℕ × Obj) → List (ℕ × Obj) → Type 0
-IsBehind extent id rows rest = (front : List (ℕ × Obj)) × (rows ≡ front ++ rest) × AllByRecursion (λ (p : ℕ × Obj). ¬ IsKeyed extent id p.1) front
-
-pub behind-next : (extent : ClassName) (id : Id) (rows left rest : List (ℕ × Obj)) (n : ℕ) (v : Obj) → IsBehind extent id rows left → left ≡ (n, v) ∷ rest → ¬ IsKeyed extent id v → IsBehind extent id rows rest
-behind-next extent id rows left rest n v b e h =
-    (b.0 ++ (n, v) ∷ [], b.1 ∙ ap (λ xs. b.0 ++ xs) e ∙ sym (append_assoc b.0 ((n, v) ∷ []) rest), all-push (λ (p : ℕ × Obj). ¬ IsKeyed extent id p.1) b.0 (n, v) b.2 h)
-
-reach : (m n : ℕ) (v : Obj) (front rest : List (ℕ × Obj)) → AllByRecursion (λ y. nat_cmp m y ≡ Less) (keys_of (front ++ (n, v) ∷ rest)) → m < n
-reach m n v [] rest h = less-below m n h.0
-reach m n v (p ∷ front) rest h = reach m n v front rest h.1
-
-row-there : (n : ℕ) (v : Obj) (front rest : List (ℕ × Obj)) → IsStrictlySortedBy nat_cmp (keys_of (front ++ (n, v) ∷ rest)) → lookup (is_at (nat_cmp n)) (front ++ (n, v) ∷ rest) ≡ Some v
-unfolding IsStrictlySortedBy
-row-there n v [] rest r = ap (λ b. cond b (Some v) (lookup (is_at (nat_cmp n)) rest)) (at-is n n ∙ eq-eqb n n refl)
-row-there n v (p ∷ front) rest r =
-    let l : p.0 < n = reach p.0 n v front rest r.0 in
-    ap (λ b. cond b (Some p.1) (lookup (is_at (nat_cmp n)) (front ++ (n, v) ∷ rest))) (at-is n p.0 ∙ ne_eqb p.0 n (λ (s : p.0 ≡ n). omega (arith, l, s)))
-    ∙ row-there n v front rest r.1
-
-pub behind-hit : (extent : ClassName) (id : Id) (rows left rest : List (ℕ × Obj)) (n : ℕ) (v : Obj) → IsStrictlySortedBy nat_cmp (keys_of rows) → IsBehind extent id rows left → left ≡ (n, v) ∷ rest → lookup (is_at (nat_cmp n)) rows ≡ Some v
-behind-hit extent id rows left rest n v r b e =
-    let whole : rows ≡ b.0 ++ (n, v) ∷ rest = b.1 ∙ ap (λ xs. b.0 ++ xs) e in
-    subst (λ xs. lookup (is_at (nat_cmp n)) xs ≡ Some v) (sym whole) (row-there n v b.0 rest (subst (λ xs. IsStrictlySortedBy nat_cmp (keys_of xs)) whole r))
+-- one holder less of an object that still has one
+pub lower-kept : (n : ℕ) (last : Bool) (rows new : List (ℕ × Obj)) (waiting : List (Reverse ℕ)) (long places : ℕ) → AreRows rows waiting long places → IsStrictlySortedBy nat_cmp (keys_of new) → counted_rows new + cond last 1 0 ≡ counted_rows rows → ((ws : List (Reverse ℕ)) → AllByRecursion (AwaitsRelease ws) rows → (last ≡ true → waits ws n ≡ true) → AllByRecursion (AwaitsRelease ws) new) → last ≡ false → AreRows new waiting long places
+lower-kept n last rows new waiting long places a rising counts keeps is = record {
+  rising = rising;
+  awaited = keeps waiting a.awaited (λ e. let c : true ≡ false = sym e ∙ is in cc);
+  order = a.order;
+  room = omega (arith, a.room, counts, ap {B = ℕ} (λ b. cond b 1 0) is);
+}

@@ -7,8 +7,6 @@ use Rattle.std.specs.BinaryHeap.{IsHeap}
 use Rattle.std.specs.Ordering.{nat_cmp}
 use Rattle.std.specs.declared.cmp.Ordering.{Ordering}
 use Rattle.std.specs.declared.cmp.Reverse.{Reverse}
-use Rattle.obj_kinds.specs.declared.name.ClassName.{ClassName}
-use Rattle.obj_kinds.specs.declared.id.Id.{Id}
 use Rattle.oref_table.specs.declared.obj.Obj.{Obj}
 use Rattle.oref_table.specs.declared.obj.Entry.{Entry}
 use Rattle.oref_table.specs.Memory.{at_first}
@@ -57,7 +55,3 @@ idle_in rows = map (λ p. (p.0, p.1.count == 0)) rows
 pub record IsRowEdit (n : ℕ) (f : Entry → Entry) (old new : List (ℕ × Obj)) : Type 0 where
   pub entries : entries_in new ≡ at_first (is_entry n) f (entries_in old)
   pub idle : idle_in new ≡ idle_in old
-
--- the object has this id in this extent
-abbrev pub IsKeyed : ClassName → Id → Obj → Type 0
-IsKeyed extent id v = (v.extent ≡ Some extent) × (v.id ≡ Some id)

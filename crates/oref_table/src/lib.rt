@@ -6,6 +6,7 @@ mod counts;
 mod edits;
 mod fill;
 mod items;
+mod keys;
 mod laws;
 mod members;
 mod obj;
@@ -14,8 +15,8 @@ mod oref;
 mod places;
 mod release;
 mod rows;
-mod search;
 mod slot;
+mod spot;
 mod table;
 
 pub use fill::{Fill, Place};

@@ -13,12 +13,13 @@ ghost use Rattle.oref_table.specs.Memory.{at_first, first_that, without_first};
 ghost use Rattle.oref_table.specs.Places.{Takes};
 ghost use Rattle.oref_table.specs.Exchanges.{FillsFirst, InsertsFirst, DropsFirst, HasItemsAt, HasMembersAt};
 ghost use Rattle.oref_table.specs.Refs.{refs_of};
+ghost use Rattle.oref_table.specs.Indexed.{extent_in};
 
 use crate::edits;
 use crate::fill::{Fill, Place};
+use crate::keys::Keys;
 use crate::obj::{Entry, Obj};
 use crate::rows::{ByNumber, Waiting, await_release, count_off, take_first};
-use crate::search::find_number;
 use crate::slot::Slot;
 use obj_kinds::{ClassName, Id, Lack, NoMemory};
 use std::alloc::Global;
@@ -26,11 +27,12 @@ use std::collections::{BTreeMap, BinaryHeap};
 use std::marker::Model;
 
 /// The objects of a table with their counts, seen in rising order of their numbers. What comes to have no holder is
-/// noted for release, in room that was taken when it was added.
+/// noted for release, in room that was taken when it was added; so is the room for its key.
 #[derive(Drop)]
 pub struct Objects {
     rows: ByNumber,
     waiting: Waiting,
+    keys: Keys,
 }
 
 impl Model for Objects {
@@ -40,6 +42,7 @@ impl Model for Objects {
     ghost use Rattle.oref_table.specs.contracts.obj.Entry as entry;
     ghost use Rattle.oref_table.specs.declared.obj.Entry.{Entry};
     ghost use Rattle.oref_table.specs.Rows.{AreRows, entries_in};
+    ghost use Rattle.oref_table.specs.Indexed.{IsIndexedBy};
 
     ghost Value = { List Entry };
 
@@ -47,7 +50,13 @@ impl Model for Objects {
 
     ghost view = { λ o. entries_in o.rows.entries };
 
-    ghost invariant = { λ o. AreRows o.rows.entries (heap_items o.waiting) (heap_len o.waiting) (heap_capacity o.waiting) };
+    ghost invariant = { λ o. AreRows o.rows.entries (heap_items o.waiting) (heap_len o.waiting) (heap_capacity o.waiting) × IsIndexedBy (entries_in o.rows.entries) o.keys };
+}
+
+fn extent_of(obj: Option<&Obj>) -> Option<&ClassName>
+    ensures { option_copied result ≡ extent_in (option_copied obj.entry) }
+{
+    obj?.extent.as_ref()
 }
 
 impl Objects {
@@ -58,6 +67,7 @@ impl Objects {
         Objects {
             rows: BTreeMap::new(alloc),
             waiting: BinaryHeap::new(alloc),
+            keys: Keys::new(alloc),
         }
     }
 
@@ -76,15 +86,20 @@ impl Objects {
         self.rows.get(&number)
     }
 
-    /// Adds an object behind the others, with the room to note it; for want of memory nothing changes.
-    pub fn add(&mut self, number: u64, obj: Obj) -> Result<(), NoMemory>
+    /// Adds an object behind the others, with the room to note it and for its key; for want of memory nothing changes.
+    pub fn add(&mut self, alloc: Global, number: u64, obj: Obj) -> Result<(), NoMemory>
         requires above { AllByRecursion (λ e. e.number < number) self.old }
+        requires free { (x : ClassName) (i : Id) → obj.extent ≡ Some x → obj.id ≡ Some i → AllByRecursion (λ e. ¬ IsEntryKey x i e) self.old }
         requires held { 0 < obj.count }
         ensures ok { OnOk result (self.new ≡ self.old ++ record { number = number; obj = obj } ∷ []) }
         ensures err { OnErr result (self.new ≡ self.old) }
     {
         self.waiting.reserve(self.rows.len() + 1)?;
+        self.keys
+            .make_room(alloc, obj.extent.as_ref(), self.rows.len())?;
+        let spot = self.keys.spot(obj.extent.as_ref(), obj.id);
         self.rows.insert(number, obj)?;
+        self.keys.put(spot, number);
         Ok(())
     }
 
@@ -102,13 +117,19 @@ impl Objects {
         ensures some { IfSome result (λ e. (first_that is_uncounted self.old ≡ Some e) × (self.new ≡ without_first is_uncounted self.old)) }
         ensures none { IfNone result ((self.new ≡ self.old) × (first_that is_uncounted self.old ≡ None)) }
     {
-        take_first(&mut self.rows, &mut self.waiting)
+        let entry = take_first(&mut self.rows, &mut self.waiting)?;
+        let spot = self.keys.spot(entry.obj.extent.as_ref(), entry.obj.id);
+        self.keys.forget(spot);
+        Some(entry)
     }
 
     /// Gives the object an id. It takes no memory.
     pub fn set_id(&mut self, number: u64, id: Id)
+        requires { (e : Entry) × (x : ClassName) × (first_that (is_entry number) self.old ≡ Some e) × (e.obj.extent ≡ Some x) × (e.obj.id ≡ None) × AllByRecursion (λ o. ¬ IsEntryKey x id o) self.old }
         ensures { self.new ≡ at_first (is_entry number) (with_entry_id id) self.old }
     {
+        let spot = self.keys.spot(extent_of(self.rows.get(&number)), Some(id));
+        self.keys.put(spot, number);
         edits::set_id(&mut self.rows, number, id);
     }
 
@@ -164,11 +185,11 @@ impl Objects {
         edits::drop_member(&mut self.rows, number, at, member);
     }
 
-    /// The number of the object with this id in this extent. It looks at the objects from the first on.
+    /// The number of the object with this id in this extent. It looks at no other object.
     pub fn find_key(&self, extent: &ClassName, id: Id) -> Option<u64>
         ensures found { IfSome result (λ n. (e : Entry) × (first_that (is_entry n) self.now ≡ Some e) × IsEntryKey extent.now id e) }
         ensures none { IfNone result (AllByRecursion (λ e. ¬ IsEntryKey extent.now id e) self.now) }
     {
-        find_number(&self.rows, extent, id)
+        self.keys.find(extent, id)
     }
 }

@@ -94,7 +94,7 @@ impl Table {
             slots,
             count: 1,
         };
-        self.objects.add(number, obj)?;
+        self.objects.add(self.alloc, number, obj)?;
         self.last = number;
         Ok(Held { number })
     }
@@ -212,7 +212,7 @@ impl Table {
         release(&mut self.objects, &mut self.released);
     }
 
-    /// The live object with this id in this extent. It takes no memory, and looks at the live objects from the first on.
+    /// The live object with this id in this extent. It takes no memory, and looks at no other object.
     pub fn by_id(&self, extent: &ClassName, id: Id) -> Option<Oref>
         ensures found { IfSome result (λ o. IsSomeAnd (object_of o.0 self.now.objects) (HasKey extent.now id)) }
         ensures none { IfNone result (IsFree extent.now id self.now.objects) }
@@ -230,10 +230,9 @@ impl Table {
         self.objects.get(oref.0)
     }
 
-    /// Gives the object an id in its extent, which no other live object there has. It takes no memory.
+    /// Gives the object its id in its extent, which no other live object there has. It takes no memory.
     pub fn set_id(&mut self, oref: Oref, id: Id)
-        requires live { IsLive self.old oref.0 }
-        requires free { (e : ClassName) → IfSome (object_of oref.0 self.old.objects) (λ o. o.extent ≡ Some e → IsFree e id self.old.objects) }
+        requires without { (e : ClassName) × IsSomeAnd (object_of oref.0 self.old.objects) (λ o. (o.extent ≡ Some e) × (o.id ≡ None)) × IsFree e id self.old.objects }
         ensures { self.new ≡ edited self.old oref.0 (with_id id) }
     {
         self.objects.set_id(oref.0, id);

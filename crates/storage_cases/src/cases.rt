@@ -2,6 +2,8 @@
 #[derive(Clone, Copy)]
 pub enum Told {
     Text(&'static [u8]),
+    /// So many letters `a`.
+    Letters(usize),
     /// The id of a target.
     Target(u64),
     NoTarget,
@@ -23,7 +25,7 @@ pub struct Case {
     pub fields: &'static [Told],
 }
 
-pub const RECORDS: [Case; 14] = [
+pub const RECORDS: [Case; 16] = [
     Case {
         extent: b"Bank.Account",
         id: 1,
@@ -152,6 +154,28 @@ pub const RECORDS: [Case; 14] = [
         id: 1,
         class: b"Bank.Clerk",
         fields: &[Told::Text(b"Cy"), Told::Target(2)],
+    },
+    Case {
+        extent: b"Lab.Base",
+        id: 7,
+        class: b"Lab.Base",
+        fields: &[
+            Told::Letters(254),
+            Told::Text(b""),
+            Told::Text(b""),
+            Told::List(&[]),
+        ],
+    },
+    Case {
+        extent: b"Lab.Base",
+        id: 7,
+        class: b"Lab.Base",
+        fields: &[
+            Told::Letters(255),
+            Told::Text(b""),
+            Told::Text(b""),
+            Told::List(&[]),
+        ],
     },
 ];
 

@@ -9,6 +9,14 @@ fn plain(alloc: Global, text: &[u8]) -> Result<Field, Failure> {
     Ok(Field::Plain(Text::from_slice(alloc, text)?))
 }
 
+fn letters(alloc: Global, count: usize) -> Result<Field, Failure> {
+    let mut text = Text::new(alloc);
+    for _ in 0..count {
+        text.push(b'a')?;
+    }
+    Ok(Field::Plain(text))
+}
+
 fn plains(alloc: Global, texts: &[&[u8]]) -> Result<Fields, Failure> {
     let mut fields = Items::new(alloc);
     for text in texts {
@@ -45,6 +53,7 @@ fn map_of_parts(alloc: Global, told: &[(&[u8], &[&[u8]])]) -> Result<FieldPairs,
 fn field(alloc: Global, told: &Told) -> Result<Field, Failure> {
     match told {
         Told::Text(text) => plain(alloc, text),
+        Told::Letters(count) => letters(alloc, *count),
         Told::Target(id) => Ok(Field::Target(Id::from_numbers(&[*id]))),
         Told::NoTarget => Ok(Field::Target(None)),
         Told::NoPart => Ok(Field::Part(None)),

@@ -1,3 +1,5 @@
+use Rattle.oref_table.proofs.IndexLaws as index
+use Rattle.std.specs.HashMap.{spare}
 use Rattle.std.proofs.Common.{◌≡◌}
 use Rattle.std.specs.BinaryHeap.{heap_items, heap_len, heap_capacity}
 use Rattle.oref_table.specs.Refs.{refs_of}
@@ -12,7 +14,12 @@ pub fill-requires : goal.fill-requires
 fill-requires c = row-slots (Takes c.args.at.now c.args.with) c.args.number c.self.inside.rows.entries c.args.self.now c.self.view_is c.requires
 
 pub invariant_of-self : goal.invariant_of-self
-invariant_of-self c = filled-kept c.args.at.now c.args.with c.args.number c.self.inside.rows.entries c.fill.new.rows.entries (heap_items c.self.inside.waiting) (heap_len c.self.inside.waiting) (heap_capacity c.self.inside.waiting) c.fill.result (λ back. back ≡ c.args.with) c.fill.ensures.ok c.fill.ensures.err c.self.invariant
+invariant_of-self c = (
+  filled-kept c.args.at.now c.args.with c.args.number c.self.inside.rows.entries c.fill.new.rows.entries (heap_items c.self.inside.waiting) (heap_len c.self.inside.waiting) (heap_capacity c.self.inside.waiting) c.fill.result (λ back. back ≡ c.args.with) c.fill.ensures.ok c.fill.ensures.err c.self.invariant.0,
+  index.indexed-kept (entries_in c.self.inside.rows.entries) (entries_in c.fill.new.rows.entries) c.self.inside.keys.extents.keys c.self.inside.keys.numbers.entries (spare c.self.inside.keys.numbers)
+      (index.filled-tags c.args.at.now c.args.with c.args.number c.self.inside.rows.entries c.fill.new.rows.entries c.fill.result (λ back. back ≡ c.args.with) c.fill.ensures.ok c.fill.ensures.err)
+      c.self.invariant.1,
+)
 
 pub returns-clause-ok : goal.returns-clause-ok
 returns-clause-ok c =

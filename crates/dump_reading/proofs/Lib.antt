@@ -1,0 +1,9 @@
+pub mod Spelling
+pub mod TakenLaws
+pub mod NodeLaws
+pub mod ValueLaws
+pub mod LineLaws
+pub mod DepthLaws
+pub mod BlankLaws
+pub mod DumpLaws
+pub mod SortedLaws
