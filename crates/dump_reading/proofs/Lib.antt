@@ -7,3 +7,5 @@ pub mod DepthLaws
 pub mod BlankLaws
 pub mod DumpLaws
 pub mod SortedLaws
+pub mod LimitLaws
+pub mod SpeltLaws

@@ -21,10 +21,10 @@ use Rattle.dump_reading.proofs.ValueLaws.{value_is_read}
 
 -- ---- in front of `=`
 
-abbrev front : NodeReader → Line
+abbrev pub front : NodeReader → Line
 front s = record line_start { node = s }
 
-abbrev behind_node : NodeReader → ValueReader → Line
+abbrev pub behind_node : NodeReader → ValueReader → Line
 behind_node s v = record { node = s; value = v; is_behind = true }
 
 -- no node goes on with `=` where it may end
@@ -46,7 +46,7 @@ front_goes s t b e = by (b == 61) (is_whole_node s) refl refl
     by true false f g = rw (f, g) (ap (with_node (front s)) e)
     by false y f g = rw f (ap (with_node (front s)) e)
 
-front_taken : (z : List ℕ) (s t : NodeReader) → taken node_step s z ≡ Ok t → taken line_step (front s) z ≡ Ok (front t)
+pub front_taken : (z : List ℕ) (s t : NodeReader) → taken node_step s z ≡ Ok t → taken line_step (front s) z ≡ Ok (front t)
 front_taken [] s t e = none_taken line_step (front s) ∙ ap ended (sym (none_taken node_step s) ∙ e)
   where
     ended : {W : Type 0} → Result NodeReader W → Result Line W
@@ -63,7 +63,7 @@ value_goes : (s : NodeReader) (v w : ValueReader) (b : ℕ) → value_step v b �
 unfolding line_step
 value_goes s v w b e = ap (with_read (behind_node s v)) e
 
-value_taken : (z : List ℕ) (s : NodeReader) (v w : ValueReader) → taken value_step v z ≡ Ok w → taken line_step (behind_node s v) z ≡ Ok (behind_node s w)
+pub value_taken : (z : List ℕ) (s : NodeReader) (v w : ValueReader) → taken value_step v z ≡ Ok w → taken line_step (behind_node s v) z ≡ Ok (behind_node s w)
 value_taken [] s v w e = none_taken line_step (behind_node s v) ∙ ap ended (sym (none_taken value_step v) ∙ e)
   where
     ended : {W : Type 0} → Result ValueReader W → Result Line W
@@ -74,13 +74,13 @@ value_taken (b ∷ z) s v w e = elim (outcome value_step v b) [
   | inr o ↦ absurd (let f = sym (taken_bad value_step v b z o.0 o.1) ∙ e in cc)
 ]
 
-equals : (s : NodeReader) → is_whole_node s ≡ true → line_step (front s) 61 ≡ Ok (behind_node s value_start)
+pub equals : (s : NodeReader) → is_whole_node s ≡ true → line_step (front s) 61 ≡ Ok (behind_node s value_start)
 unfolding line_step
 equals s h = rw h refl
 
 -- ---- the laws
 
-said_is : (s : NodeReader) (v : ValueReader) (n : Node) (x : Value) → node_in s ≡ Some n → is_whole_value v ≡ true → value_in (finished v) ≡ Some x → said (behind_node s v) ≡ Ok (n, x)
+pub said_is : (s : NodeReader) (v : ValueReader) (n : Node) (x : Value) → node_in s ≡ Some n → is_whole_value v ≡ true → value_in (finished v) ≡ Some x → said (behind_node s v) ≡ Ok (n, x)
 unfolding said
 said_is s v n x e w f = rw (w, e, f) refl
 

@@ -30,7 +30,7 @@ both false b h = cc
 
 -- ---- subscripts
 
-abbrev in_sub : Place → List ℕ → NodeReader → NodeReader
+abbrev pub in_sub : Place → List ℕ → NodeReader → NodeReader
 in_sub p t s = record s { place = at.Sub p; text = t }
 
 sub_moves : (p q : Place) (b : ℕ) (t : List ℕ) (s : NodeReader) → turn p b ≡ Moves q → node_step (in_sub p t s) b ≡ Ok (in_sub q t s)
@@ -46,7 +46,7 @@ unfolding node_step
 sub_ends p b t s e = ap (sub_turn p (in_sub p t s) b) e
 
 -- a spelling within a subscript
-through_sub : {p q : Place} {z u : List ℕ} → Spells p z q u → (t : List ℕ) (s : NodeReader) → taken node_step (in_sub p t s) z ≡ Ok (in_sub q (t ++ u) s)
+pub through_sub : {p q : Place} {z u : List ℕ} → Spells p z q u → (t : List ℕ) (s : NodeReader) → taken node_step (in_sub p t s) z ≡ Ok (in_sub q (t ++ u) s)
 through_sub (Done {p = p}) t s = none_taken node_step (in_sub p t s) ∙ ap (λ w. Ok (in_sub p w s)) (sym (append-nil t))
 through_sub (Move {p = p} {q = q} {r = r} {b = b} {z = z} {u = u} e more) t s = on node_step _ _ b z _ (sub_moves p q b t s e) (through_sub more t s)
 through_sub (Put {p = p} {q = q} {r = r} {b = b} {c = c} {z = z} {u = u} e more) t s =
@@ -75,13 +75,13 @@ none_is None h = refl
 none_is (Some a) h = cc
 
 -- the bytes of a subscript spell it
-record SubSpelt (x : Sub) : Type 0 where
+pub record SubSpelt (x : Sub) : Type 0 where
   pub bare : Bool
   pub text : List ℕ
   pub spelt : Spelt bare place.Start (sub_text x) text
   pub is : spelt_sub bare text ≡ Some x
 
-sub_spelt : (x : Sub) → is_legal_sub x ≡ true → SubSpelt x
+pub sub_spelt : (x : Sub) → is_legal_sub x ≡ true → SubSpelt x
 unfolding is_legal_sub is_sub_text number_sub quoted_sub
 sub_spelt (Num z) h =
     let whole : IsWhole z = ltb-true (unsigned_abs z) (10 ^ 18) h in
@@ -92,16 +92,16 @@ sub_spelt (Str t) h =
     record { bare = false; text = t; spelt = quoted_spelt t b.1; is = rw b.0 (ap (λ o. Some (sub_by t o)) (none_is (whole_of t) a.1)) }
 
 -- the name and the subscripts so far
-abbrev with_subs : List ℕ → List Sub → NodeReader
+abbrev pub with_subs : List ℕ → List Sub → NodeReader
 with_subs g subs = record node_start { global = g; subs = subs }
 
-abbrev behind : List ℕ → List Sub → NodeReader
+abbrev pub behind : List ℕ → List Sub → NodeReader
 behind g subs = record (with_subs g subs) { place = at.Behind }
 
-sub_then : (p : Place) (t g : List ℕ) (subs : List Sub) (x : Sub) → is_whole p ≡ true → spelt_sub (is_bare p) t ≡ Some x → node_step (in_sub p t (with_subs g subs)) 44 ≡ Ok (in_sub place.Start [] (with_subs g (subs ++ x ∷ [])))
+pub sub_then : (p : Place) (t g : List ℕ) (subs : List Sub) (x : Sub) → is_whole p ≡ true → spelt_sub (is_bare p) t ≡ Some x → node_step (in_sub p t (with_subs g subs)) 44 ≡ Ok (in_sub place.Start [] (with_subs g (subs ++ x ∷ [])))
 sub_then p t g subs x w e = sub_ends p 44 t (with_subs g subs) (ends_at_comma p w) ∙ ap (λ o. Ok (record (put_sub (in_sub p t (with_subs g subs)) o) { place = at.Sub place.Start })) e
 
-sub_last : (p : Place) (t g : List ℕ) (subs : List Sub) (x : Sub) → is_whole p ≡ true → spelt_sub (is_bare p) t ≡ Some x → node_step (in_sub p t (with_subs g subs)) 41 ≡ Ok (behind g (subs ++ x ∷ []))
+pub sub_last : (p : Place) (t g : List ℕ) (subs : List Sub) (x : Sub) → is_whole p ≡ true → spelt_sub (is_bare p) t ≡ Some x → node_step (in_sub p t (with_subs g subs)) 41 ≡ Ok (behind g (subs ++ x ∷ []))
 sub_last p t g subs x w e = sub_ends p 41 t (with_subs g subs) (ends_at_end p w) ∙ ap (λ o. Ok (record (put_sub (in_sub p t (with_subs g subs)) o) { place = at.Behind })) e
 
 -- what follows a subscript, where this is what follows a comma
@@ -129,7 +129,7 @@ all_follow (y ∷ more) hs g =
 
 -- ---- the name
 
-abbrev named : NodePlace → List ℕ → NodeReader
+abbrev pub named : NodePlace → List ℕ → NodeReader
 named p g = record node_start { place = p; global = g }
 
 -- within a name, behind a dot or not
@@ -174,10 +174,10 @@ first_goes : (b : ℕ) → is_global_first b ≡ true → node_step (record node
 unfolding node_step
 first_goes b h = rw h refl
 
-abbrev NameIsRead : List ℕ → Type 0
+abbrev pub NameIsRead : List ℕ → Type 0
 NameIsRead g = taken node_step node_start (94 ∷ g) ≡ Ok (named at.Name g)
 
-name_read : (g : List ℕ) → is_global_name g ≡ true → NameIsRead g
+pub name_read : (g : List ℕ) → is_global_name g ≡ true → NameIsRead g
 unfolding is_global_name node_step lastly
 name_read [] h = absurd (cc h)
 name_read (b ∷ g) h =
@@ -206,7 +206,7 @@ record NodeEnds (g : List ℕ) (subs : List Sub) : Type 0 where
   pub node : node_of last ≡ record { global = g; subs = subs }
   pub path : taken node_step node_start (94 ∷ g ++ subs_text subs) ≡ Ok last
 
-opens : (g : List ℕ) → node_step (named at.Name g) 40 ≡ Ok (in_sub place.Start [] (with_subs g []))
+pub opens : (g : List ℕ) → node_step (named at.Name g) 40 ≡ Ok (in_sub place.Start [] (with_subs g []))
 unfolding node_step
 opens g = refl
 
@@ -236,7 +236,7 @@ pub record NodeIsRead (n : Node) : Type 0 where
   pub node : node_in last ≡ Some n
   pub path : taken node_step node_start (node_text n) ≡ Ok last
 
-node_is : (n : Node) (s : NodeReader) → is_legal_node n ≡ true → s.is_over ≡ false → node_of s ≡ n → node_in s ≡ Some n
+pub node_is : (n : Node) (s : NodeReader) → is_legal_node n ≡ true → s.is_over ≡ false → node_of s ≡ n → node_in s ≡ Some n
 node_is n s h o e = rw (o, e, h) refl
 
 pub node_is_read : (n : Node) → is_legal_node n ≡ true → NodeIsRead n

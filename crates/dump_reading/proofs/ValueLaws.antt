@@ -30,7 +30,7 @@ use Rattle.dump_reading.proofs.TakenLaws.{none_taken, chain, on}
 use Rattle.dump_reading.proofs.NodeLaws.{both, ends_at_comma, ends_at_end}
 
 -- within the limits so far
-abbrev state : ValuePlace → List ℕ → ℕ → Open → ValueReader
+abbrev pub state : ValuePlace → List ℕ → ℕ → Open → ValueReader
 state p t d ls = record { place = p; text = t; depth = d; lists = ls; is_over = false }
 
 -- ---- texts and numbers
@@ -54,7 +54,7 @@ through_item (Put {p = p} {q = q} {r = r} {b = b} {c = c} {z = z} {u = u} e more
     on value_step _ _ b z _ (item_puts p q b c t d ls e) (through_item more (t ++ c ∷ []) d ls ∙ ap (λ w. Ok (state (at.Item r) w d ls)) (append_assoc t (c ∷ []) u))
 
 -- where a value may begin
-abbrev first_place : Bool → ValuePlace
+abbrev pub first_place : Bool → ValuePlace
 first_place true = at.Opened
 first_place false = at.Item place.Start
 
@@ -71,7 +71,7 @@ unfolding value_step
 opened_is b t d ls e = rw e refl
 
 -- a spelling that begins a value
-first_through : {q : Place} {z u : List ℕ} → Spells place.Start z q u → is_whole q ≡ true → (first : Bool) (d : ℕ) (ls : Open) → taken value_step (state (first_place first) [] d ls) z ≡ Ok (state (at.Item q) u d ls)
+pub first_through : {q : Place} {z u : List ℕ} → Spells place.Start z q u → is_whole q ≡ true → (first : Bool) (d : ℕ) (ls : Open) → taken value_step (state (first_place first) [] d ls) z ≡ Ok (state (at.Item q) u d ls)
 unfolding is_whole
 first_through s w false d ls = through_item s [] d ls
 first_through (Done {p = place.Start}) w true d ls = absurd (cc w)
@@ -93,7 +93,7 @@ pub record Settles (s : ValueReader) (d : ℕ) (ls : Open) : Type 0 where
 item_put : (p : Place) (t : List ℕ) (d : ℕ) (ls : Open) → is_long (is_bare p) t ≡ false → with_item (is_bare p) (state (at.Item p) t d ls) ≡ state (at.Item p) [] d (with_value (Str t) ls)
 item_put p t d ls e = rw e refl
 
-item_settles : (p : Place) (t : List ℕ) (d : ℕ) (ls : Open) → is_whole p ≡ true → is_long (is_bare p) t ≡ false → Settles (state (at.Item p) t d ls) d (with_value (Str t) ls)
+pub item_settles : (p : Place) (t : List ℕ) (d : ℕ) (ls : Open) → is_whole p ≡ true → is_long (is_bare p) t ≡ false → Settles (state (at.Item p) t d ls) d (with_value (Str t) ls)
 item_settles p t d ls w e = record {
   comma = item_ends p 44 t d ls (ends_at_comma p w) ∙ ap (λ s. behind s 44) (item_put p t d ls e);
   end = item_ends p 41 t d ls (ends_at_end p w) ∙ ap (λ s. behind s 41) (item_put p t d ls e);
@@ -102,7 +102,7 @@ item_settles p t d ls w e = record {
   value = λ z. rw (z, w, e) refl;
 }
 
-behind_settles : (d : ℕ) (ls : Open) → Settles (state at.Behind [] d ls) d ls
+pub behind_settles : (d : ℕ) (ls : Open) → Settles (state at.Behind [] d ls) d ls
 unfolding value_step
 behind_settles d ls = record { comma = refl; end = refl; ends = refl; depth = refl; value = λ z. rw z refl }
 
@@ -117,12 +117,12 @@ Reads v = (k : ℕ) → nested v k ≡ true → all_texts is_legal_text v ≡ tr
 
 -- ---- a text
 
-record TextSpelt (t : List ℕ) : Type 0 where
+pub record TextSpelt (t : List ℕ) : Type 0 where
   pub bare : Bool
   pub spelt : Spelt bare place.Start (text_value t) t
   pub short : is_long bare t ≡ false
 
-text_spelt : (t : List ℕ) → is_legal_text t ≡ true → TextSpelt t
+pub text_spelt : (t : List ℕ) → is_legal_text t ≡ true → TextSpelt t
 unfolding is_legal_text
 text_spelt t h = by (whole_of t) refl
   where
@@ -153,7 +153,7 @@ text_reads t k n h first d ls some few =
 -- ---- a list
 
 -- the bytes `$lb(` open one
-list_opens : (first : Bool) (d : ℕ) (ls : Open) → length ls ≤ 16 → (z : List ℕ) → taken value_step (state (first_place first) [] d ls) (codes "$lb(" ++ z) ≡ taken value_step (state at.Opened [] (d + 1) ([] ∷ ls)) z
+pub list_opens : (first : Bool) (d : ℕ) (ls : Open) → length ls ≤ 16 → (z : List ℕ) → taken value_step (state (first_place first) [] d ls) (codes "$lb(" ++ z) ≡ taken value_step (state at.Opened [] (d + 1) ([] ∷ ls)) z
 unfolding value_step turn
 list_opens first d ls few z =
     on value_step (state (first_place first) [] d ls) (state (at.Item place.Dollar) [] d ls) 36 _ _ (by first)
@@ -178,10 +178,10 @@ inside : (d : ℕ) → nat_lt 0 (d + 1) ≡ true
 inside d = grind (arith, nat_tests)
 
 -- `)` ends it
-list_ends : (vs items : List Value) (d : ℕ) (ls : Open) → behind (state at.Behind [] (d + 1) (vs ∷ items ∷ ls)) 41 ≡ Ok (state at.Behind [] d (with_value (Listed vs) (items ∷ ls)))
+pub list_ends : (vs items : List Value) (d : ℕ) (ls : Open) → behind (state at.Behind [] (d + 1) (vs ∷ items ∷ ls)) 41 ≡ Ok (state at.Behind [] d (with_value (Listed vs) (items ∷ ls)))
 list_ends vs items d ls = rw (deeper d, back d) refl
 
-item_follows : (d : ℕ) (ls : Open) → behind (state at.Behind [] (d + 1) ls) 44 ≡ Ok (state (at.Item place.Start) [] (d + 1) ls)
+pub item_follows : (d : ℕ) (ls : Open) → behind (state at.Behind [] (d + 1) ls) 44 ≡ Ok (state (at.Item place.Start) [] (d + 1) ls)
 item_follows d ls = rw (inside d) refl
 
 -- what each of the values asks

@@ -1,5 +1,5 @@
 -- Nodes, lines and dumps that are written are read back.
-use Rattle.std.specs.Prelude.{◌≡◌, Bool, true, ◌&&◌, List, Ok, IsTrue}
+use Rattle.std.specs.Prelude.{◌≡◌, ℕ, Bool, true, ◌&&◌, List, Ok, IsTrue}
 use Rattle.std.specs.List.{list_all}
 use Rattle.std.specs.FinMap.{is_sorted}
 use Rattle.obj_kinds.specs.declared.node.Node.{Node}
@@ -10,6 +10,7 @@ use Rattle.obj_kinds.specs.NodeText.{node_text}
 use Rattle.global_dump.specs.Lines.{line_text, dump_of}
 use Rattle.dump_reading.specs.LineReading.{node_read, line_read}
 use Rattle.dump_reading.specs.DumpReading.{dump_read}
+use Rattle.dump_reading.specs.Spellings.{IsNodeSpelt, IsLineSpelt}
 
 -- a node within its limits is read from its text
 abbrev pub NodesAreReadBack : Type 0
@@ -26,3 +27,11 @@ is_within e = is_legal_node e.0 && is_legal_value e.1
 -- nodes in rising order with their values, all within their limits, are read from their dump
 abbrev pub DumpsAreReadBack : Type 0
 DumpsAreReadBack = (nodes : List (Node × Value)) → IsTrue (is_sorted node_cmp nodes) → list_all is_within nodes ≡ true → dump_read (dump_of nodes) ≡ Ok nodes
+
+-- a node within its limits is read from each of its spellings
+abbrev pub SpeltNodesAreRead : Type 0
+SpeltNodesAreRead = (n : Node) (z : List ℕ) → is_legal_node n ≡ true → IsNodeSpelt n z → node_read z ≡ Ok n
+
+-- a node and a value within their limits are read from each of the spellings of their line
+abbrev pub SpeltLinesAreRead : Type 0
+SpeltLinesAreRead = (n : Node) (v : Value) (z : List ℕ) → is_legal_node n ≡ true → is_legal_value v ≡ true → IsLineSpelt n v z → line_read z ≡ Ok (n, v)

@@ -5,4 +5,5 @@ pub mod NodeReading
 pub mod ValueReading
 pub mod LineReading
 pub mod DumpReading
+pub mod Spellings
 pub mod Laws

@@ -2,8 +2,10 @@
 
 ghost use Rattle.std.specs.Prelude.{◌≡◌, ◌<◌, ◌+◌, ◌++◌, ◌^◌, IfOk, length, IsTrue};
 ghost use Rattle.std.specs.FinMap.{is_sorted};
+ghost use Rattle.std.specs.List.{list_all};
 ghost use Rattle.obj_kinds.specs.Order.{node_cmp};
 ghost use Rattle.text_lines.specs.Reading.{SaysLine};
+ghost use Rattle.dump_reading.specs.Laws.{is_within};
 ghost use Rattle.dump_reading.specs.DumpReading as spec;
 
 use crate::line::line_of;
@@ -114,8 +116,10 @@ fn listed(alloc: Global, map: BTreeMap<Node, Value>) -> Result<Nodes, NoMemory>
 }
 
 fn into_pairs(alloc: Global, said: Said) -> Result<Pairs, NoMemory>
-    requires { IsTrue (is_sorted node_cmp said.1) }
-    ensures { IfOk result (λ pairs. pairs ≡ said.1) }
+    requires rising { IsTrue (is_sorted node_cmp said.1) }
+    requires within { IsTrue (list_all is_within said.1) }
+    ensures pairs { IfOk result (λ pairs. pairs ≡ said.1) }
+    ensures within { IfOk result (λ pairs. IsTrue (list_all is_within pairs)) }
 {
     let Said { nodes, .. } = said;
     let nodes = listed(alloc, nodes)?;
@@ -124,14 +128,15 @@ fn into_pairs(alloc: Global, said: Said) -> Result<Pairs, NoMemory>
 
 /// Reads a whole dump: lines in any order, each a node, `=` and a value as `dump` writes them, where a text that is a whole
 /// number may also stand in quotes; a byte 13 may stand before a line feed, the last line may lack one, and empty lines say
-/// nothing. Answers the nodes of all lines in rising order.
+/// nothing. Answers the nodes of all lines in rising order, each with its value within the limits.
 ///
 /// The first bad line is refused, counted from 1, for the first of these reasons: it doesn't begin with a node and `=`; its
 /// rest is no value; the node or the value passes a limit; an earlier line has its node.
 #[tactic(auto, unfolding(crate::specs::DumpReading::dump_read))]
 pub fn read_dump(alloc: Global, text: &[u8]) -> Result<Pairs, DumpError>
     requires { length text.now + 1 < 2 ^ 32 }
-    ensures { spec.AnswersDump (spec.dump_read text.now) result }
+    ensures answer { spec.AnswersDump (spec.dump_read text.now) result }
+    ensures within { IfOk result (λ pairs. IsTrue (list_all is_within pairs)) }
 {
     let first = Said {
         left: text.len(),

@@ -11,6 +11,9 @@ mod stop;
 mod value_reader;
 
 pub use dump::read_dump;
-pub use law::{dumps_are_read_back, lines_are_read_back, nodes_are_read_back};
+pub use law::{
+    dumps_are_read_back, lines_are_read_back, nodes_are_read_back, spelt_lines_are_read,
+    spelt_nodes_are_read,
+};
 pub use line::{read_line, read_node};
 pub use stop::{DumpError, DumpWhy, LineError};

@@ -1,9 +1,11 @@
 //! Reads one line of a dump, and one node.
 
-ghost use Rattle.std.specs.Prelude.{◌≡◌, ◌<◌, ◌≤◌, ◌+◌, ◌^◌, length, false, OnOk};
+ghost use Rattle.std.specs.Prelude.{◌≡◌, ◌<◌, ◌≤◌, ◌+◌, ◌^◌, length, false, OnOk, IfOk, IsTrue};
 ghost use Rattle.text_lines.specs.Reading.{SaysLine};
 ghost use Rattle.dump_reading.specs.Taking.{Takes, taken};
 ghost use Rattle.dump_reading.specs.NodeReading.{node_start, node_step};
+ghost use Rattle.obj_kinds.specs.Limits.{is_legal_node};
+ghost use Rattle.dump_reading.specs.Laws.{is_within};
 ghost use Rattle.dump_reading.specs.LineReading as spec;
 
 use crate::node_reader::NodeReader;
@@ -140,10 +142,12 @@ fn node_spelt(alloc: Global, bytes: &[u8]) -> Result<Node, LineStop<DumpWhy>>
 /// whole number may also stand in quotes.
 ///
 /// A line that begins with no node and `=` is `BadNode`; else one whose rest is no value is `BadValue`; else one whose
-/// node or value passes a limit is `TooLong`.
+/// node or value passes a limit is `TooLong`. What is answered is within the limits of a node and a value.
+#[tactic(auto, using(crate::proofs::LimitLaws::line_within))]
 pub fn read_line(alloc: Global, bytes: &[u8]) -> Result<(Node, Value), LineError>
     requires { length bytes.now < 2 ^ 64 }
-    ensures { spec.AnswersLine (spec.line_read bytes.now) result }
+    ensures answer { spec.AnswersLine (spec.line_read bytes.now) result }
+    ensures within { IfOk result (λ said. IsTrue (is_within said)) }
 {
     match line_of(alloc, bytes) {
         Ok(said) => Ok(said),
@@ -154,9 +158,12 @@ pub fn read_line(alloc: Global, bytes: &[u8]) -> Result<(Node, Value), LineError
 
 /// Reads one node, as `dump` writes it; a subscript that is a whole number may also stand in quotes.
 ///
-/// What is no node is `BadNode`; else a node that passes a limit is `TooLong`.
+/// What is no node is `BadNode`; else a node that passes a limit is `TooLong`. What is answered is within the limits of a
+/// node.
+#[tactic(auto, using(crate::proofs::LimitLaws::node_within))]
 pub fn read_node(alloc: Global, bytes: &[u8]) -> Result<Node, LineError>
-    ensures { spec.AnswersLine (spec.node_read bytes.now) result }
+    ensures answer { spec.AnswersLine (spec.node_read bytes.now) result }
+    ensures within { IfOk result (λ node. IsTrue (is_legal_node node)) }
 {
     match node_spelt(alloc, bytes) {
         Ok(node) => Ok(node),

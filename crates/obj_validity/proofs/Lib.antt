@@ -1,0 +1,5 @@
+pub mod RoomLaws
+pub mod ShareLaws
+pub mod RowLaws
+pub mod MarkerLaws
+pub mod StepLaws

@@ -1,0 +1,3 @@
+pub mod Values
+pub mod Weights
+pub mod Faults
