@@ -9,3 +9,8 @@ pub mod DumpLaws
 pub mod SortedLaws
 pub mod LimitLaws
 pub mod SpeltLaws
+pub mod TailLaws
+pub mod NodeSound
+pub mod ValueSound
+pub mod LineSound
+pub mod ExactLaws

@@ -3,7 +3,7 @@ use Rattle.std.proofs.Common.{◌≡◌, ℕ, zero, suc, ◌+◌, ◌≤◌, ◌
 use borrow.Author.Tests.{lt-ltb}
 use lib.Signed.{mag}
 use Rattle.std.specs.Prelude.{codes}
-use Rattle.std.specs.Fmt.{decimal, signed_decimal}
+use Rattle.std.specs.Fmt.{signed_decimal}
 use Rattle.std.specs.Str.{IsAscii}
 use Rattle.std.specs.Char.{is_ascii}
 use Rattle.std.specs.List.{list_all}
@@ -13,11 +13,10 @@ use Rattle.std.proofs.lemmas.Bool.Decides.{nat_tests}
 use Rattle.obj_kinds.specs.declared.sub.Sub.{Sub}
 use Rattle.obj_kinds.specs.declared.node.Node.{Node}
 use Rattle.obj_kinds.specs.declared.value.Value.{Value}
-use Rattle.obj_kinds.specs.declared.value.Value.TheVariants.{Str, List as Listed}
+use Rattle.obj_kinds.specs.declared.value.Value.TheVariants.{List as Listed}
 use Rattle.obj_kinds.specs.Subscript.{IsWhole, whole_of, sub_by, sub_of}
 use Rattle.obj_kinds.specs.Limits.{is_legal_text, is_sub_text, is_legal_sub, is_global_name, is_legal_node, is_legal_value}
 use Rattle.obj_kinds.specs.Quoted.{quoted}
-use Rattle.obj_kinds.specs.NodeText.{sub_text}
 use Rattle.obj_kinds.specs.Values.{all_true, all_texts}
 use Rattle.obj_kinds.proofs.Numbers.{printed-whole_of}
 use Rattle.obj_kinds.proofs.ValueLaws.{all_texts-Str, all_texts-List}
@@ -31,15 +30,15 @@ use Rattle.dump_reading.specs.declared.value_reader.ValuePlace.TheVariants as va
 use Rattle.dump_reading.specs.declared.value_reader.ValueReader.{ValueReader}
 use Rattle.dump_reading.specs.Taking.{taken}
 use Rattle.dump_reading.specs.Places.{is_whole, is_bare}
-use Rattle.dump_reading.specs.Building.{Open, with_value, whole_value}
+use Rattle.dump_reading.specs.Building.{Open, with_value}
 use Rattle.dump_reading.specs.NodeReading.{node_start, is_whole_node, quoted_sub, spelt_sub, node_step, node_of, node_in}
-use Rattle.dump_reading.specs.ValueReading.{value_start, is_long, value_step, is_whole_value, finished, if_legal, value_in}
-use Rattle.dump_reading.specs.LineReading.{line_start, line_step, said, said_of, line_read, node_said, node_read}
+use Rattle.dump_reading.specs.ValueReading.{value_start, is_long, value_step, is_whole_value, finished, value_in}
+use Rattle.dump_reading.specs.LineReading.{line_start, line_step, said_of, line_read, node_said, node_read}
 use Rattle.dump_reading.specs.Spellings.{AreMoreSpelt, IsSubSpelt, AreSubsSpelt, IsNodeSpelt, IsTextSpelt, AreItemsSpelt, IsListSpelt, IsValueSpelt, IsLineSpelt}
 use Rattle.dump_reading.proofs.Spelling.{Spelt, quoted_spelt}
 use Rattle.dump_reading.proofs.TakenLaws.{none_taken, chain, on}
-use Rattle.dump_reading.proofs.NodeLaws.{both, none_is, in_sub, through_sub, SubSpelt, sub_spelt, with_subs, behind, sub_then, sub_last, named, NameIsRead, name_read, opens, node_is}
-use Rattle.dump_reading.proofs.ValueLaws.{state, first_place, first_through, Settles, item_settles, behind_settles, TextSpelt, text_spelt, list_opens, list_ends, item_follows}
+use Rattle.dump_reading.proofs.NodeLaws.{both, in_sub, through_sub, sub_spelt, with_subs, behind, sub_then, sub_last, named, name_read, opens, node_is}
+use Rattle.dump_reading.proofs.ValueLaws.{state, first_place, first_through, Settles, item_settles, behind_settles, text_spelt, list_opens, list_ends, item_follows}
 use Rattle.dump_reading.proofs.LineLaws.{front, behind_node, front_taken, value_taken, equals, said_is}
 
 -- ---- subscripts

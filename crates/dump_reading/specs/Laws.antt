@@ -1,5 +1,5 @@
 -- Nodes, lines and dumps that are written are read back.
-use Rattle.std.specs.Prelude.{◌≡◌, ℕ, Bool, true, ◌&&◌, List, Ok, IsTrue}
+use Rattle.std.specs.Prelude.{◌≡◌, ◌↔◌, ℕ, Bool, true, ◌&&◌, List, Ok, IsTrue}
 use Rattle.std.specs.List.{list_all}
 use Rattle.std.specs.FinMap.{is_sorted}
 use Rattle.obj_kinds.specs.declared.node.Node.{Node}
@@ -28,10 +28,10 @@ is_within e = is_legal_node e.0 && is_legal_value e.1
 abbrev pub DumpsAreReadBack : Type 0
 DumpsAreReadBack = (nodes : List (Node × Value)) → IsTrue (is_sorted node_cmp nodes) → list_all is_within nodes ≡ true → dump_read (dump_of nodes) ≡ Ok nodes
 
--- a node within its limits is read from each of its spellings
-abbrev pub SpeltNodesAreRead : Type 0
-SpeltNodesAreRead = (n : Node) (z : List ℕ) → is_legal_node n ≡ true → IsNodeSpelt n z → node_read z ≡ Ok n
+-- a node is read exactly where the bytes are one of its spellings, and it is within its limits
+abbrev pub NodesAreExact : Type 0
+NodesAreExact = (n : Node) (z : List ℕ) → (node_read z ≡ Ok n) ↔ ((is_legal_node n ≡ true) × IsNodeSpelt n z)
 
--- a node and a value within their limits are read from each of the spellings of their line
-abbrev pub SpeltLinesAreRead : Type 0
-SpeltLinesAreRead = (n : Node) (v : Value) (z : List ℕ) → is_legal_node n ≡ true → is_legal_value v ≡ true → IsLineSpelt n v z → line_read z ≡ Ok (n, v)
+-- a node and a value are read exactly where the bytes are one of the spellings of their line, and they are within their limits
+abbrev pub LinesAreExact : Type 0
+LinesAreExact = (n : Node) (v : Value) (z : List ℕ) → (line_read z ≡ Ok (n, v)) ↔ ((is_legal_node n ≡ true) × (is_legal_value v ≡ true) × IsLineSpelt n v z)

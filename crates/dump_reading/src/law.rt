@@ -1,6 +1,6 @@
 //! What is written is read back.
 
-ghost use Rattle.dump_reading.specs.Laws.{NodesAreReadBack, LinesAreReadBack, DumpsAreReadBack, SpeltNodesAreRead, SpeltLinesAreRead};
+ghost use Rattle.dump_reading.specs.Laws.{NodesAreReadBack, LinesAreReadBack, DumpsAreReadBack, NodesAreExact, LinesAreExact};
 
 /// A node within its limits is read from the text that is written of it.
 #[tactic(auto, using(crate::proofs::LineLaws::node_is_read_back))]
@@ -20,14 +20,12 @@ pub fn dumps_are_read_back()
     ensures { DumpsAreReadBack }
 {}
 
-/// A node within its limits is read from each of its spellings.
-#[tactic(auto, using(crate::proofs::SpeltLaws::node_spelt_is_read))]
-pub fn spelt_nodes_are_read()
-    ensures { SpeltNodesAreRead }
+/// Nothing else is read as a node than its spellings, and each of these is where the node is within its limits.
+pub fn nodes_are_read_exactly()
+    ensures { NodesAreExact }
 {}
 
-/// A node and a value within their limits are read from each of the spellings of their line.
-#[tactic(auto, using(crate::proofs::SpeltLaws::line_spelt_is_read))]
-pub fn spelt_lines_are_read()
-    ensures { SpeltLinesAreRead }
+/// Nothing else is read as a line than its spellings, and each of these is where node and value are within their limits.
+pub fn lines_are_read_exactly()
+    ensures { LinesAreExact }
 {}

@@ -12,8 +12,8 @@ mod value_reader;
 
 pub use dump::read_dump;
 pub use law::{
-    dumps_are_read_back, lines_are_read_back, nodes_are_read_back, spelt_lines_are_read,
-    spelt_nodes_are_read,
+    dumps_are_read_back, lines_are_read_back, lines_are_read_exactly, nodes_are_read_back,
+    nodes_are_read_exactly,
 };
 pub use line::{read_line, read_node};
 pub use stop::{DumpError, DumpWhy, LineError};

@@ -1,6 +1,7 @@
 -- Calls: what is asked of the store one operation after another, by the replies, and what is answered in the end. A call is a
 -- tree that branches where the store replies.
 use Rattle.std.specs.Prelude.{ℕ, zero, suc, List, [], ◌∷◌}
+use Rattle.obj_kinds.specs.declared.name.ClassName.{ClassName}
 use Rattle.obj_kinds.specs.declared.op.Op.{Op}
 use Rattle.obj_kinds.specs.declared.op.Reply.{Reply}
 use Rattle.obj_kinds.specs.declared.op.Reply.TheVariants.{Granted, Held}
@@ -20,13 +21,24 @@ pub data Tag : Type 0 where
   Closes : Change → Tag
   Fails : Tag
 
+-- what a call of an object was about
+pub data About : Type 0 where
+  -- the opening of a key for a class
+  Opening : Key → ClassName → About
+  -- a save of these parts; none while its ids are drawn
+  Saving : Change → About
+  -- the delete of a key that was asked of a class
+  Deleting : Key → ClassName → About
+  -- the next member of a many side
+  Walking : About
+
 -- what a process notes between its operations; a place is told by how many of its entries came after it
 pub data Told : Type 0 where
   Prints : List ℕ → Told
   -- a load made an object; the place is that of its first Get
   Loaded : ℕ → Key → Record → Told
   -- a call of an object failed; the place is that of the entry whose reply decided
-  Failed : ℕ → Cause → Told
+  Failed : About → ℕ → Cause → Told
   -- it failed by the memory alone, and asked nothing
   Refused : Cause → Told
   -- an object is opened or deleted with level 0 or 1

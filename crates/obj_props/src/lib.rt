@@ -1,0 +1,13 @@
+//! Properties of objects in memory: what they hold, and how they are read.
+#![tactic(auto)]
+
+mod content;
+mod copies;
+mod get;
+mod got;
+mod part;
+mod store;
+
+pub use content::prop_place;
+pub use get::get_prop;
+pub use got::{Got, ShapeError};

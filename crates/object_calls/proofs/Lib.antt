@@ -1,0 +1,5 @@
+pub mod Lists
+pub mod EditLaws
+pub mod LoadsSampled
+pub mod DeletesSampled
+pub mod SavesSampled

@@ -1,0 +1,10 @@
+pub mod Marks
+pub mod ObjectMachine
+pub mod Runs
+pub mod Schedules
+pub mod SoundWorlds
+pub mod Causes
+pub mod Headline
+pub mod Invariant
+pub mod References
+pub mod MarkSamples
