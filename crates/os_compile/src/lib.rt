@@ -1,10 +1,9 @@
-//! Scripts become flat code: the function that makes it, and that what it makes is the code that a script has.
+//! Scripts become flat code: expressions, commands without blocks, and what stands around the blocks of loops.
 #![tactic(auto)]
 
 mod actions;
 mod arguments;
 mod assignments;
-mod commands;
 mod conditions;
 mod counting;
 mod emitted;
@@ -13,5 +12,3 @@ mod expressions;
 mod locks;
 mod places;
 mod receiver;
-
-pub use commands::code_of;
