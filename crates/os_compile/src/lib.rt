@@ -1,9 +1,10 @@
-//! Scripts become flat code: expressions, commands without blocks, and what stands around the blocks of loops.
+//! Scripts become flat code: the function that makes it, and that what it makes is the code that a script has.
 #![tactic(auto)]
 
 mod actions;
 mod arguments;
 mod assignments;
+mod commands;
 mod conditions;
 mod counting;
 mod emitted;
@@ -12,3 +13,5 @@ mod expressions;
 mod locks;
 mod places;
 mod receiver;
+
+pub use commands::code_of;
