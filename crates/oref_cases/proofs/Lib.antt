@@ -1,1 +1,2 @@
 pub mod ParkedLaws
+pub mod PlaceLaws

@@ -8,7 +8,6 @@ use Rattle.obj_kinds.specs.declared.id.Id.{Id}
 use Rattle.oref_table.specs.declared.oref.Oref.{Oref}
 use Rattle.oref_table.specs.declared.oref.Held.{Held}
 use Rattle.oref_table.specs.declared.slot.Slot.{Slot}
-use Rattle.oref_table.specs.declared.slot.Slot.TheVariants.{Target}
 use Rattle.oref_table.specs.declared.fill.Fill.{Fill}
 use Rattle.oref_table.specs.declared.fill.Fill.TheVariants as fill
 use Rattle.oref_table.specs.declared.fill.Place.TheVariants as place
@@ -17,7 +16,6 @@ use Rattle.oref_table.specs.Memory.{Object, Memory, object_of, outside_of}
 use Rattle.oref_table.specs.Filling.{IsHeldFor, passed}
 use Rattle.oref_table.specs.Places.{MayFill, PartTakes}
 use Rattle.oref_table.proofs.Lowered.{times-append}
-use Rattle.oref_table.proofs.RefLaws.{refs-target}
 use Rattle.oref_cases.specs.Parked.{AreParked}
 
 -- one hold more is parked
@@ -101,8 +99,8 @@ pub slot-may : (m : Memory) (n s : ℕ) (w : Fill) → (o : Object) × (object_o
 unfolding PartTakes
 slot-may m n s w h = let t = slot-at h.0.slots s h.2 in (h.0, h.1, (t.0, t.1, tt))
 
-pub no-refs-more : (slots new : List Slot) → refs_in slots ≡ [] → new ≡ slots ++ Target None ∷ [] → refs_in new ≡ []
-no-refs-more slots new h e =
-    let none : refs_in (Target None ∷ []) ≡ [] = ap (λ rs. rs ++ []) (refs-target None) in
-    let parts : refs_in (slots ++ Target None ∷ []) ≡ refs_in slots ++ refs_in (Target None ∷ []) = flat_map-append refs_of slots (Target None ∷ []) in
-    ap refs_in e ∙ parts ∙ ap (λ rs. rs ++ refs_in (Target None ∷ [])) h ∙ none
+pub no-refs-more : (slots new : List Slot) (slot : Slot) → refs_in slots ≡ [] → refs_of slot ≡ [] → new ≡ slots ++ slot ∷ [] → refs_in new ≡ []
+no-refs-more slots new slot h none e =
+    let one : refs_in (slot ∷ []) ≡ [] = ap (λ rs. rs ++ []) none in
+    let parts : refs_in (slots ++ slot ∷ []) ≡ refs_in slots ++ refs_in (slot ∷ []) = flat_map-append refs_of slots (slot ∷ []) in
+    ap refs_in e ∙ parts ∙ ap (λ rs. rs ++ refs_in (slot ∷ [])) h ∙ one

@@ -1,7 +1,8 @@
 use crate::chain::class;
+use crate::collections::Spot;
 use crate::failure::Failure;
 use crate::player::Player;
-use obj_kinds::Id;
+use obj_kinds::{Id, Sub};
 use oref_table::Oref;
 use std::alloc::Global;
 
@@ -52,23 +53,76 @@ fn id(words: &Words<'_>, at: usize) -> Result<Id, Failure> {
     }
 }
 
-/// `make SLOTS`, or `make SLOTS ID` for an object of an extent.
+/// The slot that the words after the first one name.
+fn spot(words: &Words<'_>) -> Result<Spot, Failure> {
+    Ok(Spot {
+        oref: oref(words, 1)?,
+        slot: small(words, 2)?,
+    })
+}
+
+/// A key of an array.
+fn key(alloc: Global, words: &Words<'_>, at: usize) -> Result<Sub, Failure> {
+    match Sub::from_text(alloc, word(words, at)?.as_bytes()) {
+        Ok(key) => Ok(key),
+        Err(_) => Err(Failure::Line),
+    }
+}
+
+/// `make LETTERS`, or `make LETTERS ID` for an object of an extent.
 fn make(alloc: Global, player: &mut Player, words: &Words<'_>) -> Result<bool, Failure> {
-    let slots = small(words, 1)?;
+    let letters = word(words, 1)?;
     if words.len() < 3 {
-        player.make(alloc, class(alloc)?, slots)?;
+        player.make(alloc, class(alloc)?, letters)?;
         return Ok(true);
     }
-    player.make_keyed(alloc, class(alloc)?, class(alloc)?, id(words, 2)?, slots)
+    player.make_keyed(alloc, class(alloc)?, class(alloc)?, id(words, 2)?, letters)
 }
 
 /// `slot OREF SLOT OREF`, or with `-` in the place of the last one.
 fn slot(player: &mut Player, words: &Words<'_>) -> Result<bool, Failure> {
-    let (from, at) = (oref(words, 1)?, small(words, 2)?);
+    let at = spot(words)?;
     if word(words, 3)? == "-" {
-        return player.clear(from, at);
+        return player.clear(at);
     }
-    player.link(from, at, oref(words, 3)?)
+    player.link(at, oref(words, 3)?)
+}
+
+/// `item OREF SLOT PLACE OREF`, or with `-` in the place of the last one.
+fn item(player: &mut Player, words: &Words<'_>) -> Result<bool, Failure> {
+    let (at, place) = (spot(words)?, number(words, 3)?);
+    if word(words, 4)? == "-" {
+        return player.take_item(at, place);
+    }
+    player.put_item(at, place, oref(words, 4)?)
+}
+
+/// `insert OREF SLOT PLACE OREF`.
+fn insert(player: &mut Player, words: &Words<'_>) -> Result<bool, Failure> {
+    player.insert_item(spot(words)?, number(words, 3)?, oref(words, 4)?)
+}
+
+/// `pair OREF SLOT KEY OREF`, or with `-` in the place of the last one.
+fn pair(alloc: Global, player: &mut Player, words: &Words<'_>) -> Result<bool, Failure> {
+    let (at, key) = (spot(words)?, key(alloc, words, 3)?);
+    if word(words, 4)? == "-" {
+        return player.take_pair(at, key);
+    }
+    player.put_pair(at, key, oref(words, 4)?)
+}
+
+/// `member OREF SLOT OREF`; there is no such call with `-`.
+fn member(player: &mut Player, words: &Words<'_>) -> Result<bool, Failure> {
+    let at = spot(words)?;
+    if word(words, 3)? == "-" {
+        return Ok(false);
+    }
+    player.put_member(at, oref(words, 3)?)
+}
+
+/// `leave OREF SLOT OREF`.
+fn leave(player: &mut Player, words: &Words<'_>) -> Result<bool, Failure> {
+    Ok(player.take_member(spot(words)?, oref(words, 3)?))
 }
 
 /// Carries a line out, and answers whether it may be.
@@ -78,6 +132,11 @@ fn play(alloc: Global, player: &mut Player, words: &Words<'_>) -> Result<bool, F
         "hold" => player.hold(oref(words, 1)?),
         "drop" => Ok(player.let_go(oref(words, 1)?)),
         "slot" => slot(player, words),
+        "item" => item(player, words),
+        "insert" => insert(player, words),
+        "pair" => pair(alloc, player, words),
+        "member" => member(player, words),
+        "leave" => leave(player, words),
         _ => Err(Failure::Line),
     }
 }

@@ -1,3 +1,4 @@
+use crate::collections::Spot;
 use crate::failure::Failure;
 use crate::player::Player;
 use obj_kinds::{ClassName, Text};
@@ -13,7 +14,7 @@ pub fn class(alloc: Global) -> Result<ClassName, Failure> {
 /// So many objects of one slot, each held once from outside.
 fn make_all(alloc: Global, player: &mut Player, size: u32) -> Result<(), Failure> {
     for _ in 0..size {
-        player.make(alloc, class(alloc)?, 1)?;
+        player.make(alloc, class(alloc)?, "s")?;
     }
     Ok(())
 }
@@ -21,7 +22,11 @@ fn make_all(alloc: Global, player: &mut Player, size: u32) -> Result<(), Failure
 /// Each object names the one behind it.
 fn link_all(player: &mut Player, size: u32) -> Result<(), Failure> {
     for at in 1..size {
-        player.link(Oref(u64::from(at)), 0, Oref(u64::from(at) + 1))?;
+        let from = Spot {
+            oref: Oref(u64::from(at)),
+            slot: 0,
+        };
+        player.link(from, Oref(u64::from(at) + 1))?;
     }
     Ok(())
 }

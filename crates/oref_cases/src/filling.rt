@@ -1,6 +1,7 @@
 ghost use Rattle.std.specs.Prelude.{ℕ, ◌≡◌, ◌-◌, ◌<◌, Some, length, true};
 ghost use Rattle.oref_table.specs.Filling.{IsHeldFor, passed};
 ghost use Rattle.oref_table.specs.Memory.{Object, object_of, outside_of};
+ghost use Rattle.oref_table.specs.Places.{MayFill};
 ghost use Rattle.oref_table.specs.Refs.{times};
 
 use crate::failure::Failure;
@@ -21,7 +22,7 @@ fn has_slot(table: &Table, oref: Oref, slot: u32) -> bool
 fn let_value_go(_value: Value) {}
 
 /// Gives back what was to be stored.
-fn give_back(table: &mut Table, with: Fill)
+pub fn give_back(table: &mut Table, with: Fill)
     requires { IsHeldFor table.old with }
     ensures { (n : ℕ) → outside_of table.new n ≡ outside_of table.old n - times n (passed with) }
 {
@@ -30,6 +31,21 @@ fn give_back(table: &mut Table, with: Fill)
         Fill::Plain(value) => let_value_go(value),
         Fill::Target(_) => {}
         Fill::Nothing => {}
+    }
+}
+
+/// Fills a place that may be filled so.
+pub fn put(table: &mut Table, oref: Oref, at: &Place, with: Fill) -> Result<bool, Failure>
+    requires place { MayFill table.old oref.0 at.now with }
+    requires held { IsHeldFor table.old with }
+    ensures { (n : ℕ) → outside_of table.new n ≡ outside_of table.old n - times n (passed with) }
+{
+    match table.fill(oref, at, with) {
+        Ok(()) => Ok(true),
+        Err(refused) => {
+            give_back(table, refused.0);
+            Err(Failure::Room)
+        }
     }
 }
 
@@ -42,11 +58,5 @@ pub fn fill_slot(table: &mut Table, oref: Oref, slot: u32, with: Fill) -> Result
         give_back(table, with);
         return Ok(false);
     }
-    match table.fill(oref, &Place::Slot(slot), with) {
-        Ok(()) => Ok(true),
-        Err(refused) => {
-            give_back(table, refused.0);
-            Err(Failure::Room)
-        }
-    }
+    put(table, oref, &Place::Slot(slot), with)
 }

@@ -6,6 +6,8 @@
 
 mod cases;
 mod chain;
+mod collections;
+mod contents;
 mod counts;
 mod failure;
 mod filling;

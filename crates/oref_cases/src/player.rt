@@ -1,11 +1,14 @@
 ghost use Rattle.std.specs.Prelude.{◌≡◌, ◌<◌, [], vec_len, IfOk};
-ghost use Rattle.oref_table.specs.Refs.{refs_in};
+ghost use Rattle.oref_table.specs.Refs.{refs_in, refs_of};
 ghost use Rattle.oref_cases.specs.Parked.{AreParked};
 
+use crate::collections::{
+    Spot, insert_item, put_item, put_member, put_pair, take_item, take_member, take_pair,
+};
 use crate::failure::Failure;
 use crate::filling::fill_slot;
-use obj_kinds::{ClassName, Id};
-use oref_table::{Fill, Oref, Slot, Slots, Table};
+use obj_kinds::{ClassName, Id, Sub};
+use oref_table::{Fill, Oref, Orefs, Slot, SlotPairs, Slots, Table};
 use std::alloc::Global;
 use std::marker::Model;
 
@@ -30,13 +33,26 @@ impl Model for Player {
     ghost invariant = { λ p. AreParked p.table p.held.items };
 }
 
-/// So many slots without an id.
-fn empty_slots(alloc: Global, count: u32) -> Result<Slots, Failure>
+/// A slot as its letter says: `s` one without an id, `l` a list, `a` an array, `m` members.
+fn empty_slot(alloc: Global, letter: u8) -> Result<Slot, Failure>
+    ensures { IfOk result (λ slot. refs_of slot ≡ []) }
+{
+    match letter {
+        b's' => Ok(Slot::Target(None)),
+        b'l' => Ok(Slot::Items(Slots::new(alloc))),
+        b'a' => Ok(Slot::Map(SlotPairs::new(alloc))),
+        b'm' => Ok(Slot::Members(Orefs::new(alloc))),
+        _ => Err(Failure::Line),
+    }
+}
+
+/// A slot for each letter.
+fn empty_slots(alloc: Global, letters: &[u8]) -> Result<Slots, Failure>
     ensures { IfOk result (λ slots. refs_in slots ≡ []) }
 {
     let mut slots = Slots::new(alloc);
-    for _ in 0..count {
-        slots.push(Slot::Target(None))?;
+    for letter in letters {
+        slots.push(empty_slot(alloc, *letter)?)?;
     }
     Ok(slots)
 }
@@ -71,9 +87,9 @@ impl Player {
         self.table.clear_released();
     }
 
-    /// A new object with so many slots, and its hold.
-    pub fn make(&mut self, alloc: Global, class: ClassName, slots: u32) -> Result<(), Failure> {
-        let slots = empty_slots(alloc, slots)?;
+    /// A new object with a slot for each letter, and its hold.
+    pub fn make(&mut self, alloc: Global, class: ClassName, letters: &str) -> Result<(), Failure> {
+        let slots = empty_slots(alloc, letters.as_bytes())?;
         self.held.reserve(1)?;
         let made = self.table.make(class, None, None, 0, slots)?;
         let oref = self.table.park(made);
@@ -88,12 +104,12 @@ impl Player {
         class: ClassName,
         extent: ClassName,
         id: Id,
-        slots: u32,
+        letters: &str,
     ) -> Result<bool, Failure> {
         if self.table.by_id(&extent, id).is_some() {
             return Ok(false);
         }
-        let slots = empty_slots(alloc, slots)?;
+        let slots = empty_slots(alloc, letters.as_bytes())?;
         self.held.reserve(1)?;
         let made = self.table.make(class, Some(extent), Some(id), 0, slots)?;
         let oref = self.table.park(made);
@@ -136,16 +152,67 @@ impl Player {
     }
 
     /// Has a slot of an object name another one; it answers whether there are such.
-    pub fn link(&mut self, from: Oref, slot: u32, to: Oref) -> Result<bool, Failure> {
+    pub fn link(&mut self, at: Spot, to: Oref) -> Result<bool, Failure> {
         if self.table.get(to).is_none() {
             return Ok(false);
         }
         let held = self.table.hold(to)?;
-        fill_slot(&mut self.table, from, slot, Fill::To(held))
+        fill_slot(&mut self.table, at.oref, at.slot, Fill::To(held))
     }
 
     /// Has a slot of an object name none; it answers whether there is such a slot.
-    pub fn clear(&mut self, from: Oref, slot: u32) -> Result<bool, Failure> {
-        fill_slot(&mut self.table, from, slot, Fill::Nothing)
+    pub fn clear(&mut self, at: Spot) -> Result<bool, Failure> {
+        fill_slot(&mut self.table, at.oref, at.slot, Fill::Nothing)
+    }
+
+    /// Puts an object in the place of an item or at the end; it answers whether there are such.
+    pub fn put_item(&mut self, at: Spot, place: u64, to: Oref) -> Result<bool, Failure> {
+        if self.table.get(to).is_none() {
+            return Ok(false);
+        }
+        let held = self.table.hold(to)?;
+        put_item(&mut self.table, at, place, held)
+    }
+
+    /// Puts an object before an item or at the end; it answers whether there are such.
+    pub fn insert_item(&mut self, at: Spot, place: u64, to: Oref) -> Result<bool, Failure> {
+        if self.table.get(to).is_none() {
+            return Ok(false);
+        }
+        let held = self.table.hold(to)?;
+        insert_item(&mut self.table, at, place, held)
+    }
+
+    /// Takes an item out; it answers whether there is one.
+    pub fn take_item(&mut self, at: Spot, place: u64) -> Result<bool, Failure> {
+        take_item(&mut self.table, at, place)
+    }
+
+    /// Puts an object under a key; it answers whether there are an array and the object.
+    pub fn put_pair(&mut self, at: Spot, key: Sub, to: Oref) -> Result<bool, Failure> {
+        if self.table.get(to).is_none() {
+            return Ok(false);
+        }
+        let held = self.table.hold(to)?;
+        put_pair(&mut self.table, at, key, held)
+    }
+
+    /// Takes the element of a key out; it answers whether there is one.
+    pub fn take_pair(&mut self, at: Spot, key: Sub) -> Result<bool, Failure> {
+        take_pair(&mut self.table, at, key)
+    }
+
+    /// Adds a member; it answers whether it may be added.
+    pub fn put_member(&mut self, at: Spot, member: Oref) -> Result<bool, Failure> {
+        if self.table.get(member).is_none() {
+            return Ok(false);
+        }
+        let held = self.table.hold(member)?;
+        put_member(&mut self.table, at, member, held)
+    }
+
+    /// Takes a member out; it answers whether it is one.
+    pub fn take_member(&mut self, at: Spot, member: Oref) -> bool {
+        take_member(&mut self.table, at, member)
     }
 }

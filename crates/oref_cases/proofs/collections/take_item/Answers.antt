@@ -1,0 +1,10 @@
+use Rattle.std.proofs.Common.{arith}
+use Rattle.oref_cases.proofs.ParkedLaws.{nothing-for}
+use Rattle.oref_cases.proofs.PlaceLaws.{passed_none}
+use Rattle.oref_cases.proofs.collections.take_item.Goals as goal
+
+pub put-requires-clause-held : goal.put-requires-clause-held
+put-requires-clause-held c = nothing-for c.args.table.now
+
+pub returns-then-has_item : goal.returns-then-has_item
+returns-then-has_item c = λ n. let e = c.put.ensures n in omega (arith, e, passed_none n)
