@@ -1,5 +1,5 @@
 -- What the calls of objects look up in the classes of a schema.
-use Rattle.std.specs.Prelude.{ℕ, zero, suc, Bool, false, not, cond, ◌&&◌, ◌||◌, ◌==◌, List, [], ◌∷◌, ◌++◌, length, codes, Option, None, Some, unwrap_or}
+use Rattle.std.specs.Prelude.{ℕ, zero, suc, Bool, false, not, cond, ◌&&◌, ◌||◌, ◌==◌, List, [], ◌∷◌, ◌++◌, length, codes, Option, None, Some}
 use Rattle.std.specs.Option.{option_and_then}
 use Rattle.std.specs.List.{list_any}
 use Rattle.obj_kinds.specs.declared.name.ClassName.{ClassName}
@@ -10,12 +10,13 @@ use Rattle.obj_kinds.specs.declared.cause.Cause.TheVariants.{OtherClass}
 use Rattle.schema_kinds.specs.declared.class.Class.{Class}
 use Rattle.schema_kinds.specs.Links.{row}
 use Rattle.schema_kinds.specs.Hierarchy.{place_of, links_of}
-use Rattle.schema_kinds.specs.Classes.{class_names, headers_of, extent_of}
+use Rattle.schema_kinds.specs.Classes.{class_names, headers_of}
 use Rattle.record_layout.specs.Shapes.{Form, row_forms}
 use Rattle.record_layout.specs.Layout.{line_of, own_props, arrays_of}
 use Rattle.record_layout.specs.Items.{if_long}
 use Rattle.record_layout.specs.Shapes.{id_length}
 use Rattle.storage_map.specs.Worlds.{id_of_sub}
+pub use Rattle.storage_map.specs.Keys.{extent_at}
 
 -- ---- at or below
 
@@ -40,10 +41,6 @@ abbrev pub refuses_none : ClassName → Option Cause
 refuses_none class = None
 
 -- ---- extents
-
--- the extent of a persistent class
-abbrev pub extent_at : List Class → ClassName → ClassName
-extent_at classes class = unwrap_or (extent_of classes class) class
 
 -- the node that counts the ids of an extent
 abbrev pub counter_node : ClassName → Node

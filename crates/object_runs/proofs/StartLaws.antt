@@ -20,7 +20,7 @@ use Rattle.store_core.specs.Machine.{levels_at, opening}
 use Rattle.store_core.proofs.FrameLaws.{no_levels, cleared_opening}
 use Rattle.store_core.proofs.GuardLaws.{opening_guarded}
 use Rattle.object_runs.specs.ObjectMachine.{desk_at, clear_desk, first_desks, apply_all}
-use Rattle.object_runs.specs.SoundWorlds.{IsSound}
+use Rattle.storage_map.specs.SoundWorlds.{IsSound}
 use Rattle.object_runs.specs.Runs.{start}
 use Rattle.object_runs.specs.Headline.{is_object_node, Opening, IsCounted, ClearedIsImage}
 use Rattle.object_runs.specs.Invariant.{row_guard, key_guard, some_changes, IsPending, shown, Stands, IsAligned, IsPossible, Present, Pending, IsInvariant}

@@ -30,7 +30,7 @@ use Rattle.store_calls.specs.Calls.{About, Opening, Saving, Deleting, Walking, T
 use Rattle.object_calls.specs.Extents.{extent_at, counter_node, is_at_or_below}
 use Rattle.object_calls.specs.Keys.{Unique, uniques_of, MovedKey, moved_keys, Side, sides_of, MovedSide, moved_sides, ManySide, many_sides, members_node, target_key}
 use Rattle.object_runs.specs.ObjectMachine.{Own}
-use Rattle.object_runs.specs.SoundWorlds.{Clash, has_key_node}
+use Rattle.storage_map.specs.SoundWorlds.{Clash, has_key_node}
 
 abbrev pub Each : {A : Type 0} → (A → Type 0) → List A → Type 0
 Each P [] = Unit {0}

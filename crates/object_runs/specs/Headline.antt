@@ -25,7 +25,7 @@ use Rattle.object_runs.specs.declared.mark.Mark.{Mark}
 use Rattle.object_runs.specs.Marks.{is_raw, is_low}
 use Rattle.object_runs.specs.ObjectMachine.{Desk, Within, desk_at, view}
 use Rattle.object_runs.specs.Runs.{Meaning, Outcome, Runs, Both, start, moved, meaning_after, ran, meaning_ran, tag_by}
-use Rattle.object_runs.specs.SoundWorlds.{IsSound}
+use Rattle.storage_map.specs.SoundWorlds.{IsSound}
 use Rattle.object_runs.specs.Causes.{Each, IsTrueTold}
 
 -- ---- the schema's nodes

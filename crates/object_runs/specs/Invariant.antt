@@ -31,7 +31,7 @@ use Rattle.store_core.specs.Guard.{Guarding, Unguarded, GuardedBy, Closed, Guard
 use Rattle.object_calls.specs.Keys.{Side, sides_of, ManySide, many_sides, members_node, target_key}
 use Rattle.object_calls.specs.Saves.{is_key}
 use Rattle.object_runs.specs.ObjectMachine.{Desks, Within, desk_at, apply_all}
-use Rattle.object_runs.specs.SoundWorlds.{IsSound, HasSide}
+use Rattle.storage_map.specs.SoundWorlds.{IsSound, HasSide}
 use Rattle.object_runs.specs.Causes.{Has}
 use Rattle.object_runs.specs.Headline.{is_object_node, is_extent_of, IsCounted, first_number}
 

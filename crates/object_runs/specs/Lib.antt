@@ -2,7 +2,6 @@ pub mod Marks
 pub mod ObjectMachine
 pub mod Runs
 pub mod Schedules
-pub mod SoundWorlds
 pub mod Causes
 pub mod Headline
 pub mod Invariant

@@ -1,10 +1,9 @@
 -- Why nodes are no record's, in four cases of which the first counts.
 use Rattle.std.specs.Prelude.{◌≡◌, Bool, not, cond, List, Option, None, Some, is_some, option_map}
-use Rattle.std.specs.List.{list_all, find}
+use Rattle.std.specs.List.{find}
 use Rattle.std.specs.FinMap as map
 use Rattle.obj_kinds.specs.declared.node.Node.{Node}
 use Rattle.obj_kinds.specs.declared.value.Value.{Value}
-use Rattle.obj_kinds.specs.Limits.{is_legal_node}
 use Rattle.obj_kinds.specs.Order.{node_cmp}
 use Rattle.schema_kinds.specs.declared.class.Class.{Class}
 use Rattle.schema_kinds.specs.declared.key.Key.{Key}
@@ -12,12 +11,8 @@ use Rattle.schema_kinds.specs.declared.record.Record.{Record}
 use Rattle.global_tree.specs.Below.{or_else}
 use Rattle.record_layout.specs.Rows.{data_node, below, rows}
 use Rattle.record_layout.specs.Reading.{Reading, Read, Damaged, damaged_at}
-use Rattle.storage_map.specs.Entries.{entry_list}
+pub use Rattle.storage_map.specs.Entries.{has_legal_entries}
 use Rattle.record_reading.specs.Rows.{read_record}
-
--- each entry of the record is within the limits of a node
-unfoldable pub has_legal_entries : List Class → Key → Record → Bool
-has_legal_entries classes key r = list_all is_legal_node (entry_list classes key r)
 
 -- a node that isn't in the rows of the record
 abbrev pub is_strange : List Class → Key → Record → Node × Value → Bool

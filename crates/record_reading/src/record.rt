@@ -54,7 +54,7 @@ fn are_legal(entries: &[(Node, Value)]) -> bool
 }
 
 /// Whether each entry of the record is within the limits of a node. It fails only for want of memory.
-#[tactic(auto, unfolding(crate::specs::Damage::has_legal_entries), using(crate::proofs::DamageLaws::all_legal))]
+#[tactic(auto, unfolding(storage_map::specs::Entries::has_legal_entries), using(crate::proofs::DamageLaws::all_legal))]
 pub fn has_legal_entries(
     alloc: Global,
     schema: &Schema,

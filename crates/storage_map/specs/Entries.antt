@@ -1,6 +1,6 @@
 -- The entries of a record in the index global of its extent.
-use Rattle.std.specs.Prelude.{ℕ, ◌-◌, cond, not, ◌&&◌, nat_le, List, [], ◌∷◌, ◌++◌, map, filter, codes, Option, None, Some, is_some, option_map}
-use Rattle.std.specs.List.{filter_map, list_any}
+use Rattle.std.specs.Prelude.{ℕ, ◌-◌, cond, not, ◌&&◌, nat_le, Bool, List, [], ◌∷◌, ◌++◌, map, filter, codes, Option, None, Some, is_some, option_map}
+use Rattle.std.specs.List.{filter_map, list_all, list_any}
 use Rattle.std.specs.FinMap.{from_entries}
 use Rattle.obj_kinds.specs.declared.node.Node.{Node}
 use Rattle.obj_kinds.specs.declared.sub.Sub.{Sub}
@@ -9,6 +9,7 @@ use Rattle.obj_kinds.specs.declared.value.Value.{Value}
 use Rattle.obj_kinds.specs.declared.value.Value.TheVariants as value
 use Rattle.obj_kinds.specs.Subscript.{sub_of}
 use Rattle.obj_kinds.specs.Ids.{id_text}
+use Rattle.obj_kinds.specs.Limits.{is_legal_node}
 use Rattle.schema_kinds.specs.declared.class.Class.{Class}
 use Rattle.schema_kinds.specs.declared.class.Index.{Index}
 use Rattle.schema_kinds.specs.declared.key.Key.{Key}
@@ -98,6 +99,10 @@ props_in (Some c) = c.props
 
 unfoldable pub entry_list : List Class → Key → Record → List Node
 entry_list classes key r = let c = class_of classes r.class in entry_nodes key (indexes_of c) (with_fields (props_in c) r.fields)
+
+-- each entry of the record is within the limits of a node
+unfoldable pub has_legal_entries : List Class → Key → Record → Bool
+has_legal_entries classes key r = list_all is_legal_node (entry_list classes key r)
 
 -- an entry has the empty text
 abbrev pub valued_empty : List Node → List (Node × Value)

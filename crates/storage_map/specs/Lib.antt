@@ -3,5 +3,7 @@ pub mod Ways
 pub mod Markers
 pub mod Entries
 pub mod Worlds
+pub mod Keys
+pub mod SoundWorlds
 pub mod Changes
 pub mod Laws

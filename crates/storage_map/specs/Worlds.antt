@@ -1,5 +1,5 @@
 -- Worlds of records, and the nodes that they have.
-use Rattle.std.specs.Prelude.{◌≡◌, ◌≢◌, ℕ, pos, negsuc, zero, suc, Bool, true, false, cond, ◌&&◌, ◌||◌, nat_eq, List, [], ◌∷◌, length, Option, None, Some}
+use Rattle.std.specs.Prelude.{◌≡◌, ℕ, pos, negsuc, zero, suc, Bool, true, false, cond, ◌&&◌, ◌||◌, nat_eq, List, [], ◌∷◌, length, Option, None, Some}
 use Rattle.std.specs.Option.{option_and_then}
 use Rattle.std.specs.List.{list_any}
 use Rattle.std.specs.FinMap.{get}
@@ -10,7 +10,6 @@ use Rattle.obj_kinds.specs.declared.sub.Sub.TheVariants.{Num, Str}
 use Rattle.obj_kinds.specs.declared.value.Value.{Value}
 use Rattle.obj_kinds.specs.IdReading.{id_in}
 use Rattle.schema_kinds.specs.declared.class.Class.{Class}
-use Rattle.schema_kinds.specs.declared.class.Index.{Index}
 use Rattle.schema_kinds.specs.declared.key.Key.{Key}
 use Rattle.schema_kinds.specs.declared.record.Record.{Record}
 use Rattle.schema_kinds.specs.declared.kind.Kind.{Kind}
@@ -18,12 +17,12 @@ use Rattle.schema_kinds.specs.declared.kind.Kind.TheVariants as kind
 use Rattle.schema_kinds.specs.declared.prop.Prop.{Prop}
 use Rattle.schema_kinds.specs.Worlds.{World}
 use Rattle.obj_kinds.specs.Texts.{same_text}
-use Rattle.schema_kinds.specs.Classes.{class_names, class_of, extent_of, is_with, is_root}
+use Rattle.schema_kinds.specs.Classes.{class_names, extent_of, is_with, is_root}
 use Rattle.record_layout.specs.Shapes.{AreOfForms, id_length, IsIdOf}
 use Rattle.record_layout.specs.Layout.{layout_of}
 use Rattle.record_layout.specs.Rows.{rows}
 use Rattle.storage_map.specs.Markers.{is_extent}
-use Rattle.storage_map.specs.Entries.{entries, index_key, props_in, with_fields}
+use Rattle.storage_map.specs.Entries.{entries}
 
 -- the id that a subscript is
 abbrev pub id_of_sub : Sub → Option (List ℕ)
@@ -113,17 +112,3 @@ pub record IsRecordOf (classes : List Class) (key : Key) (r : Record) : Type 0 w
   pub extent : extent_of classes r.class ≡ Some key.extent
   pub id : IsIdOf classes key.extent key.id
   pub fields : AreOfForms classes (layout_of classes r.class).forms r.fields
-
-abbrev pub Lists : Index → List Index → Type 0
-Lists i [] = ⊥
-Lists i (j ∷ js) = (i ≡ j) × Lists i js
-
--- two keys have one key of a unique index
-pub record Clash (classes : List Class) (w : World) (a b : Key) : Type 0 where
-  pub index : Index
-  pub unique : index.unique ≡ true
-  pub other : a ≢ b
-  pub extent : a.extent ≡ b.extent
-  pub key : List Sub
-  pub first : (r : Record) × (get w a ≡ Some r) × (index_key index (with_fields (props_in (class_of classes r.class)) r.fields) ≡ Some key)
-  pub second : (r : Record) × (get w b ≡ Some r) × (index_key index (with_fields (props_in (class_of classes r.class)) r.fields) ≡ Some key)

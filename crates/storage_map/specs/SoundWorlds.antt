@@ -10,9 +10,9 @@ use Rattle.schema_kinds.specs.declared.record.Record.{Record}
 use Rattle.schema_kinds.specs.Classes.{IsBelow}
 use Rattle.schema_kinds.specs.Worlds.{World}
 use Rattle.record_layout.specs.Rows.{row_list}
+use Rattle.storage_map.specs.Entries.{has_legal_entries}
 use Rattle.storage_map.specs.Worlds.{IsKeyOf, IsRecordOf}
-use Rattle.record_reading.specs.Damage.{has_legal_entries}
-use Rattle.object_calls.specs.Keys.{Side, uniques_of, sides_of, target_key, same_node}
+use Rattle.storage_map.specs.Keys.{Side, uniques_of, sides_of, target_key, same_node}
 
 -- each node of the record and its value, and each of its entries, is within the limits
 unfoldable pub passes_no_limit : List Class → Key → Record → Bool
