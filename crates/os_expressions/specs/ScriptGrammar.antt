@@ -1,4 +1,40 @@
--- The grammar of scripts. Each production says which tokens stand there, which limits keep a token out, and what the tokens
+-- The grammar of scripts, as a manual prints it. The phrases below are these lines, with their limits and what they mean.
+--
+--   script      = { command | newline }
+--   command     = "SET" [ post ] sarg { "," sarg }
+--               | "WRITE" [ post ] warg { "," warg }
+--               | "DO" [ post ] call { "," call }
+--               | "QUIT" [ post ] [ expr ]                                                    no value within a loop
+--               | "KILL" [ post ] [ karg { "," karg } ]
+--               | "LOCK" [ post ] [ larg { "," larg } ]
+--               | "TSTART" [ post ] | "TCOMMIT" [ post ] | "TROLLBACK" [ post ] [ "1" ] | "HALT" [ post ]
+--               | "IF" expr { "," expr } block { "ELSEIF" expr { "," expr } block } [ "ELSE" block ]
+--               | "FOR" [ name "=" expr ":" expr [ ":" expr ] ] block
+--               | "WHILE" expr { "," expr } block
+--   block       = { newline } "{" script "}" { newline }
+--   post        = ":" expr
+--   sarg        = target "=" expr
+--   warg        = expr | "!"
+--   karg        = name | global
+--   larg        = "-" global [ "#" "S" ] | [ "+" ] global [ "#" "S" ] [ ":" expr ]
+--   call        = an operand that ends in args
+--   target      = name | global | operand "." name | ".." name
+--   expr        = operand { operator operand }
+--   operand     = { "+" | "-" | "'" } primary { "." name [ args ] }
+--   primary     = digits | string | "(" expr ")" | name | global
+--               | "%objlasterror" | "$TEST" | "$TLEVEL" | "$THIS"
+--               | function args                                                               as many as the function has
+--               | ( "$GET" | "$DATA" | "$INCREMENT" ) "(" ( name | global ) [ "," expr ] ")"   one alone for $DATA
+--               | "$ORDER" "(" "^" gname "(" expr { "," expr } ")" ")"
+--               | "##class(" cname ")." name args
+--               | ".." name [ args ]
+--   global      = "^" gname [ "(" expr { "," expr } ")" ]
+--   args        = "(" [ expr { "," expr } ] ")"
+--
+-- Limits: 64 blocks and parentheses are open at most; a variable's name has 31 bytes, a member's 31, a class's 60 and a global's 64 at
+-- most, a string 32,767. Tokens, short words and where blanks stand are in script_tokens.
+--
+-- Below, each production says which tokens stand there, which limits keep a token out, and what the tokens
 -- mean; its language, its parser and their law come from it alone.
 --
 -- A phrase of type `Phrase I A` is given an I and says an A: `a & b` is one after the other, and says both, `a &> b` says what b
