@@ -1,5 +1,5 @@
 -- Code of places, members, signs and operations is that of the expressions that they stand for.
-use Rattle.std.proofs.Common.{◌≡◌, ℕ, suc, ◌+◌, ◌<◌, take, get_or, arith, Bool, true, false, List, [], ◌∷◌, ◌++◌, map, length, Option, Some, None, refl, sym, ap, ◌∙◌}
+use Rattle.std.proofs.Common.{◌≡◌, ℕ, ◌+◌, ◌<◌, take, get_or, Bool, true, false, List, [], ◌∷◌, ◌++◌, map, length, Option, Some, None, refl, sym, ap, ◌∙◌}
 use Rattle.std.specs.Option.{option_map}
 use Rattle.std.proofs.lemmas.List.{take_more}
 use Rattle.os_kinds.specs.declared.expression.Operator.{Operator}
@@ -12,12 +12,12 @@ use Rattle.os_kinds.specs.declared.expression.Expression.TheVariants as e
 use Rattle.os_kinds.specs.declared.expression.Expression.{Expression}
 use Rattle.os_meaning.specs.Syntax as s
 use Rattle.os_meaning.specs.Syntax.{Name, Exprs}
-use Rattle.os_meaning.specs.Tree.{MemberOf, OperationOf, exprs, expr_of, place_of, method_by, member_by, members, signed, operation, operations}
+use Rattle.os_meaning.specs.Tree.{MemberOf, OperationOf, expr_of, place_of, method_by, member_by, members, signed, operation, operations}
 use Rattle.os_code.specs.declared.instruction.Instruction.{Instruction}
 use Rattle.os_code.specs.declared.instruction.Instruction.TheVariants as i
 use Rattle.os_compile.specs.declared.receiver.Receiver.{Receiver}
 use Rattle.os_compile.specs.declared.receiver.Receiver.TheVariants as r
-use Rattle.os_code.specs.Coding.{count, expr_size, drops, expr_code, args_code, subs_code, steps_code}
+use Rattle.os_code.specs.Coding.{count, expr_size, drops, expr_code, args_code}
 use Rattle.os_compile.proofs.Trees.{value_is, get_is, data_is, increment_is, members_is, signed_is, operations_is}
 use Rattle.os_code.proofs.Lengths.{expr_longer}
 use Rattle.os_compile.specs.Chains.{if_none, place_code, read_code, get_code, get_or_code, defined_code, increment_code, increment_by_code, member_of, operation_of, receiver, receiver_after, receiver_behind, is_method, method_first, read_by, code_before, call_by, member_code, members_code, signs_code, operation_code, operations_code}
@@ -195,14 +195,3 @@ module _ (line : ℕ) where
 
   pub increment_by_code_is : (method : Bool) (p : Place) (o : Expression) (rest : List Instruction) → code_before line method (expr_of (e.Increment p (Some o))) rest ≡ place_code line (place_of p) (expr_code line (expr_of o) (increment_by_code line (place_of p) rest))
   increment_by_code_is method p o rest = ap (λ k. code_before line method k rest) (increment_is p (Some o)) ∙ increment_by_of method (place_of p) (expr_of o) rest
-
-  -- ---- the subscripts of $ORDER
-
-  pub steps_last : (k : ℕ) (es : List Expression) (a : Expression) (rest : List Instruction) →
-      steps_code line k (exprs (map expr_of (es ++ a ∷ []))) rest ≡ subs_code line k (exprs (map expr_of es)) (expr_code line (expr_of a) (i.TestAfter (k + length es) line ∷ rest))
-  steps_last k [] a rest = let z : k ≡ k + 0 = omega arith in ap (λ j. expr_code line (expr_of a) (i.TestAfter j line ∷ rest)) z
-  steps_last k (x ∷ []) a rest = let z : suc k ≡ k + 1 = omega arith in ap (λ j. expr_code line (expr_of x) (i.TestSubscript k line ∷ expr_code line (expr_of a) (i.TestAfter j line ∷ rest))) z
-  steps_last k (x ∷ y ∷ es) a rest =
-      let z : suc k + suc (length es) ≡ k + suc (suc (length es)) = omega arith in
-      ap (λ l. expr_code line (expr_of x) (i.TestSubscript k line ∷ l)) (steps_last (suc k) (y ∷ es) a rest
-      ∙ ap (λ j. subs_code line (suc k) (exprs (map expr_of (y ∷ es))) (expr_code line (expr_of a) (i.TestAfter j line ∷ rest))) z)
