@@ -24,7 +24,7 @@ use Rattle.record_layout.specs.Rows.{data_node, below}
 use Rattle.record_layout.specs.Reading.{fields_in, merged}
 use Rattle.storage_map.specs.Markers.{row_class}
 use Rattle.record_reading.specs.Rows.{items_behind}
-use Rattle.record_reading.specs.Damage.{has_legal_entries}
+use Rattle.storage_map.specs.Entries.{has_legal_entries}
 use Rattle.store_calls.specs.Calls.{Call, Give, Ask, Tag, Tried, Got, Lost, then, each}
 use Rattle.store_calls.specs.Walks.{Elements, walk, first_walk}
 
