@@ -1,0 +1,14 @@
+pub mod Parts
+pub mod Seeing
+pub mod Ends
+pub mod Arguments
+pub mod Standing
+pub mod ItemMembers
+pub mod Reads
+pub mod Writes
+pub mod Lists
+pub mod Arrays
+pub mod ManySides
+pub mod Members
+pub mod MemberObjects
+pub mod SetLaws

@@ -1,0 +1,3 @@
+pub mod Bank
+pub mod Loading
+pub mod Saving
