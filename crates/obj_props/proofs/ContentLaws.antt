@@ -61,7 +61,7 @@ none-and : (xs ys : List ℕ) → xs ≡ [] → ys ≡ [] → xs ++ ys ≡ []
 none-and xs ys e f = ap (λ zs. zs ++ ys) e ∙ f
 
 module _ (classes : List Class) (part : ClassName → List Slot → Type 0) (none : (c : ClassName) (slots : List Slot) → part c slots → refs_in slots ≡ []) where
-  element-none : (i : Item) (s : Slot) → IsStored classes part i (out-Slot s) → refs_of s ≡ []
+  pub element-none : (i : Item) (s : Slot) → IsStored classes part i (out-Slot s) → refs_of s ≡ []
   element-none i s h = by i (out-Slot s) refl h
     where
       by : (i : Item) (v : Slot-F Slot) → out-Slot s ≡ v → IsStored classes part i v → refs_of s ≡ []
@@ -88,7 +88,7 @@ module _ (classes : List Class) (part : ClassName → List Slot → Type 0) (non
       by (of.Ref c) (Slot-F.Members os) e h = absurd h
       by (of.Serial c) (Slot-F.Members os) e h = absurd h
 
-  elements-none : (i : Item) (slots : List Slot) → EachGood (λ s. IsStored classes part i (out-Slot s)) slots → refs_in slots ≡ []
+  pub elements-none : (i : Item) (slots : List Slot) → EachGood (λ s. IsStored classes part i (out-Slot s)) slots → refs_in slots ≡ []
   elements-none i [] h = refl
   elements-none i (s ∷ ss) h = none-and (refs_of s) (refs_in ss) (element-none i s h.0) (elements-none i ss h.1)
 

@@ -15,8 +15,9 @@ fn copy_orefs(alloc: Global, orefs: &[Oref]) -> Result<Orefs, NoMemory>
     Ok(copy)
 }
 
+/// The same slot again. It fails only for want of memory.
 #[cycle(copy)]
-fn copy_slot(alloc: Global, slot: &Slot) -> Result<Slot, NoMemory>
+pub fn copy_slot(alloc: Global, slot: &Slot) -> Result<Slot, NoMemory>
     ensures { IfOk result (λ copy. copy ≡ slot.now) }
 {
     match slot {

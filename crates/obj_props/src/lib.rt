@@ -9,5 +9,7 @@ mod part;
 mod store;
 
 pub use content::prop_place;
+pub use copies::copy_slot;
 pub use get::get_prop;
 pub use got::{Got, ShapeError};
+pub use store::{fill_slot, give_back, hold_again, soundness};

@@ -22,3 +22,4 @@ pub mod MemberLaws
 pub mod PlaceLaws
 pub mod RowLaws
 pub mod ElementLaws
+pub mod MakeAllLaws

@@ -1,10 +1,10 @@
 -- A place that is filled.
-use Rattle.std.proofs.Common.{zero, suc, ◌≡◌, ◌≢◌, ℕ, ◌+◌, ◌<◌, ◌≤◌, cond, Some, None, List, [], ◌∷◌, ◌++◌, take, drop, length, insert, refl, ap, sym, subst, ◌∙◌, arith, slice_set, slice_index_or, IsTrue, Result, Ok, Err, IfOk, IfErr, IsSome}
+use Rattle.std.proofs.Common.{zero, suc, ◌≡◌, ◌≢◌, ℕ, ◌+◌, ◌<◌, ◌≤◌, cond, Some, None, List, [], ◌∷◌, ◌++◌, take, drop, length, insert, refl, ap, sym, subst, ◌∙◌, arith, slice_set, slice_index_or, IsTrue, Result, Ok, Err, IfOk, IfErr, IsOk, IsSome, true, false}
 use Rattle.std.specs.List.{slice_get, remove}
 use Rattle.std.specs.Ordering.{is_eq}
 use Rattle.std.specs.FinMap.{find, put, is_sorted}
 use Rattle.std.specs.declared.cmp.Ordering.TheVariants.{Less, Equal, Greater}
-use Rattle.std.proofs.lemmas.Bool.{eq-eqb, ne_eqb}
+use Rattle.std.proofs.lemmas.Bool.{eq-eqb, ne_eqb, true≢false}
 use Rattle.std.proofs.lemmas.Cmp.{alike_right}
 use Rattle.std.proofs.lemmas.List.Concat.{flat_map-append}
 use Rattle.obj_kinds.specs.declared.sub.Sub.{Sub}
@@ -14,7 +14,9 @@ use Rattle.obj_kinds.specs.Search.{IsHit, IsGap}
 use Rattle.obj_kinds.proofs.Sorted.{first, second, turned, below_each, hit_tail, find_gap, put_gap, put_hit}
 use Rattle.oref_table.specs.declared.oref.Oref.{Oref}
 use Rattle.oref_table.specs.declared.slot.Slot.{Slot}
-use Rattle.oref_table.specs.declared.slot.Slot.TheVariants.{Target, Items, Map, Members}
+use Rattle.oref_table.specs.declared.slot.Slot.TheVariants.{Target, Items, Map, Members, rolls-Items, rolls-Map}
+use Rattle.oref_table.specs.declared.slot.Slot.TheOpen.{Slot-F}
+use Rattle.oref_table.specs.declared.slot.Slot.TheViews.{out-Slot, out-roll-Slot}
 use Rattle.oref_table.specs.declared.fill.Fill.{Fill}
 use Rattle.oref_table.specs.declared.fill.Fill.TheVariants as fill
 use Rattle.oref_table.specs.declared.oref.Held.{Held}
@@ -28,7 +30,7 @@ use Rattle.oref_table.specs.Entries.{refs_all, seen_one, lowered, is_entry, with
 use Rattle.oref_table.specs.Exchanges.{FillsFirst}
 use Rattle.oref_table.specs.Stands.{memory_of, IsTable}
 use Rattle.oref_table.specs.Filling.{slot_from, passed, IsHeldFor, with_slots}
-use Rattle.oref_table.specs.Places.{has_key, item_put, items_filled, ItemTakes, pairs_filled, PairTakes, MemberTakes, with_members, slot_number, PartTakes, PartFills, Takes, Fills, IsExchange, MayFill}
+use Rattle.oref_table.specs.Places.{has_key, item_put, items_filled, ItemTakes, pairs_filled, PairTakes, MemberTakes, with_members, slot_number, PartTakes, PartFills, Takes, Fills, IsAmong, IsExchange, IsThere, MayFill}
 use Rattle.oref_table.proofs.Lowered.{times-append}
 use Rattle.oref_table.proofs.RefLaws.{refs-target, refs-items, refs-map, refs-members}
 use Rattle.oref_table.proofs.EditLaws.{entry-of, object-found, length-at_first}
@@ -312,3 +314,41 @@ fill-place es last fs n places at w mid before out t held s so =
       filled = fill-any es last fs n places r (λ _. slots) out (passed w) before t s.2 (covered-passed es last fs places w t held) (λ x a. dead-passed (memory_of es last fs) w x held a) s.3.1 made;
       long = ap length made ∙ length-lowered out (at_first (is_entry n) (with_entry_slots (λ _. slots)) es) ∙ length-at_first (is_entry n) (with_entry_slots (λ _. slots)) es;
     }
+
+-- ---- what is there already
+
+pub not_ok : {X E : Type 0} (r : Result X E) (e : E) → r ≡ Err e → IsOk r → ⊥
+not_ok (Ok x) e is h = absurd (cc)
+not_ok (Err x) e is h = let g : false ≡ true = h in true≢false (sym g)
+
+there_items : (at : Place) (s i : ℕ) (old : Slot) → at ≡ place.Item s i → IsThere at old → (items : List Slot) × (old ≡ Items items) × (i < length items)
+unfolding IsThere
+there_items at s i old e h = subst (λ (a : Place). IsThere a old) e h
+
+pub items_there : (at : Place) (s i : ℕ) (old : Slot) (P : Type 0) → at ≡ place.Item s i → ((items : List Slot) → old ≡ Items items → i < length items → P) → IsThere at old → P
+items_there at s i old P e f h = let g = there_items at s i old e h in f g.0 g.1 g.2
+
+there_pairs : (at : Place) (s : ℕ) (k : Sub) (old : Slot) → at ≡ place.Pair s k → IsThere at old → (pairs : List (Sub × Slot)) × (old ≡ Map pairs) × IsSome (find sub_cmp k pairs)
+unfolding IsThere
+there_pairs at s k old e h = subst (λ (a : Place). IsThere a old) e h
+
+pub pairs_there : (at : Place) (s : ℕ) (k : Sub) (old : Slot) (P : Type 0) → at ≡ place.Pair s k → ((pairs : List (Sub × Slot)) → old ≡ Map pairs → IsSome (find sub_cmp k pairs) → P) → IsThere at old → P
+pairs_there at s k old P e f h = let g = there_pairs at s k old e h in f g.0 g.1 g.2
+
+pub no_member_there : (at : Place) (s : ℕ) (old : Slot) → at ≡ place.Member s → ¬ IsThere at old
+unfolding IsThere
+no_member_there at s old e h = let g : IsThere (place.Member s) old = subst (λ (a : Place). IsThere a old) e h in g
+
+pub same_items : (old : Slot) (xs ys : List Slot) → old ≡ Items xs → old ≡ Items ys → xs ≡ ys
+same_items old xs ys e f =
+    let z : Slot-F.Items xs ≡ Slot-F.Items ys = sym (out-roll-Slot (Slot-F.Items xs)) ∙ ap out-Slot (rolls-Items xs ∙ sym e ∙ f ∙ sym (rolls-Items ys)) ∙ out-roll-Slot (Slot-F.Items ys) in cc
+
+pub same_pairs : (old : Slot) (xs ys : List (Sub × Slot)) → old ≡ Map xs → old ≡ Map ys → xs ≡ ys
+same_pairs old xs ys e f =
+    let z : Slot-F.Map xs ≡ Slot-F.Map ys = sym (out-roll-Slot (Slot-F.Map xs)) ∙ ap out-Slot (rolls-Map xs ∙ sym e ∙ f ∙ sym (rolls-Map ys)) ∙ out-roll-Slot (Slot-F.Map ys) in cc
+
+-- the slot that stood there is the one that is known
+pub slots_there : (at : Place) (slots : List Slot) (s : ℕ) (old : Slot) → s ≡ slot_number at → slice_get slots s ≡ Some old → IsAmong at slots → IsThere at old
+slots_there at slots s old e got h =
+    let same : old ≡ h.0 = let g : Some old ≡ Some h.0 = sym got ∙ ap (slice_get slots) e ∙ h.1 in cc in
+    subst (λ (x : Slot). IsThere at x) (sym same) h.2

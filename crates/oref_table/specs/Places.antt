@@ -69,6 +69,13 @@ PartTakes (place.Item s i) with_ old = (items : List Slot) × (old ≡ Items ite
 PartTakes (place.Pair s k) with_ old = (pairs : List (Sub × Slot)) × (old ≡ Map pairs) × IsTrue (is_sorted sub_cmp pairs) × PairTakes k with_ pairs
 PartTakes (place.Member s) with_ old = (members : List Oref) × (old ≡ Members members) × MemberTakes with_ members
 
+-- filling the place needs no more room: a slot, an item or an element that is there already
+unfoldable pub IsThere : Place → Slot → Type 0
+IsThere (place.Slot s) old = Unit {0}
+IsThere (place.Item s i) old = (items : List Slot) × (old ≡ Items items) × (i < length items)
+IsThere (place.Pair s k) old = (pairs : List (Sub × Slot)) × (old ≡ Map pairs) × IsSome (find sub_cmp k pairs)
+IsThere (place.Member s) old = ⊥
+
 -- what stands in the slot then
 unfoldable pub PartFills : Place → Fill → Slot → Slot → Type 0
 PartFills (place.Slot s) with_ old new = new ≡ slot_from with_
@@ -95,3 +102,7 @@ MayFill m n at with_ = (o : Object) × (object_of n m.objects ≡ Some o) × Tak
 -- the place filled, and then all released that nothing holds
 abbrev pub IsFilledTo : Memory → Memory → ℕ → Place → Fill → Type 0
 IsFilledTo m w n at with_ = (o : Object) × (slots : List Slot) × (object_of n m.objects ≡ Some o) × Fills at with_ o.slots slots × (w ≡ dropped (loosed (edited m n (with_slots (λ _. slots))) (passed with_)))
+
+-- what stands among the slots has the place already
+abbrev pub IsAmong : Place → List Slot → Type 0
+IsAmong at slots = (old : Slot) × (slice_get slots (slot_number at) ≡ Some old) × IsThere at old

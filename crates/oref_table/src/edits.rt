@@ -14,7 +14,7 @@ ghost use Rattle.oref_table.specs.Memory.{without_first};
 ghost use Rattle.oref_table.specs.Filling.{is_member};
 ghost use Rattle.oref_table.specs.Entries.{HasHolder, raised, with_entry_id, with_entry_level, with_entry_mark};
 ghost use Rattle.oref_table.specs.Exchanges.{DropsRow, FillsRow, HasItemsAt, HasMembersAt, InsertsRow, IsFilling};
-ghost use Rattle.oref_table.specs.Places.{Takes};
+ghost use Rattle.oref_table.specs.Places.{IsAmong, Takes};
 ghost use Rattle.oref_table.specs.Refs.{refs_of};
 ghost use Rattle.oref_table.specs.Rows.{entries_in, IsRowEdit};
 
@@ -107,6 +107,7 @@ fn fill_obj(alloc: Global, obj: &mut Obj, at: &Place, with: Fill) -> Result<Slot
     ensures ok { IfOk result (λ out. (slots : List Slot) × (obj.new ≡ record obj.old { slots = slots }) × IsFilling at.now with obj.old.slots slots (refs_of out)) }
     ensures err { IfErr result (λ back. (back ≡ with) × (obj.new ≡ obj.old)) }
     ensures slot { (s : ℕ) → at.now ≡ AtSlot s → IsOk result }
+    ensures there { IsAmong at.now obj.old.slots → IsOk result }
 {
     fill_slots(alloc, &mut obj.slots, at, with)
 }
@@ -124,6 +125,7 @@ pub fn fill(
     ensures ok { IfOk result (λ out. FillsRow at.now with number rows.old.entries rows.new.entries (refs_of out)) }
     ensures err { IfErr result (λ back. (back ≡ with) × (rows.new.entries ≡ rows.old.entries)) }
     ensures slot { (s : ℕ) → at.now ≡ AtSlot s → IsOk result }
+    ensures there { (v : Obj) → lookup (is_at (nat_cmp number)) rows.old.entries ≡ Some v → IsAmong at.now v.slots → IsOk result }
 {
     match rows.get_mut(&number) {
         None => Err(with),

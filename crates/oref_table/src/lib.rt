@@ -24,7 +24,7 @@ pub use laws::{
     drops_have_one_end, elements_stay_in_order, holds_outside_are_accounted_for,
     what_holds_itself_up_stays,
 };
-pub use obj::{Freed, Obj, Released};
+pub use obj::{Freed, NewObj, NewObjs, Obj, Released};
 pub use oref::{Held, Oref};
 pub use slot::{Orefs, Slot, SlotPairs, Slots};
 pub use table::Table;

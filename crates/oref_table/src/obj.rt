@@ -43,6 +43,22 @@ pub struct Freed {
 /// What is told of released objects, in the order of their release.
 pub type Released = Vec<Freed>;
 
+/// An object that is to be made, together with others.
+#[derive(Drop)]
+pub struct NewObj {
+    /// Its own class.
+    pub class: ClassName,
+    /// The root class of the extent that it is of, where it can be stored.
+    pub extent: Option<ClassName>,
+    /// The level that it is opened at, 0 to 4.
+    pub level: u8,
+    /// What it has at its places.
+    pub slots: Slots,
+}
+
+/// Objects that are to be made together, in the order of their numbers.
+pub type NewObjs = Vec<NewObj>;
+
 /// An object with its number.
 #[derive(Drop)]
 pub struct Entry {

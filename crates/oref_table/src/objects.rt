@@ -9,8 +9,10 @@ ghost use Rattle.oref_table.specs.declared.slot.Slot.{Slot};
 ghost use Rattle.oref_table.specs.declared.slot.Slot.TheVariants.{Items, Members};
 ghost use Rattle.oref_table.specs.Entries.{HasHolder, is_entry, is_uncounted, lowered, raised, with_entry_id, with_entry_level, with_entry_mark, with_entry_slot, IsEntryKey};
 ghost use Rattle.oref_table.specs.Filling.{is_member};
+ghost use Rattle.oref_table.specs.Making.{entry_of_new, new_entries};
+ghost use Rattle.oref_table.specs.declared.obj.NewObj.{NewObj};
 ghost use Rattle.oref_table.specs.Memory.{at_first, first_that, without_first};
-ghost use Rattle.oref_table.specs.Places.{Takes};
+ghost use Rattle.oref_table.specs.Places.{IsAmong, Takes};
 ghost use Rattle.oref_table.specs.Exchanges.{FillsFirst, InsertsFirst, DropsFirst, HasItemsAt, HasMembersAt};
 ghost use Rattle.oref_table.specs.Refs.{refs_of};
 ghost use Rattle.oref_table.specs.Indexed.{extent_in};
@@ -18,7 +20,7 @@ ghost use Rattle.oref_table.specs.Indexed.{extent_in};
 use crate::edits;
 use crate::fill::{Fill, Place};
 use crate::keys::Keys;
-use crate::obj::{Entry, Obj};
+use crate::obj::{Entry, NewObj, NewObjs, Obj};
 use crate::rows::{ByNumber, Waiting, await_release, count_off, take_first};
 use crate::slot::Slot;
 use obj_kinds::{ClassName, Id, Lack, NoMemory};
@@ -103,6 +105,65 @@ impl Objects {
         Ok(())
     }
 
+    /// Adds an object of the number behind the others, with one holder; for want of memory nothing changes.
+    fn add_new(&mut self, alloc: Global, number: u64, new: NewObj) -> Result<(), NoMemory>
+        requires { AllByRecursion (λ e. e.number < number) self.old }
+        ensures ok { OnOk result (self.new ≡ self.old ++ entry_of_new number new ∷ []) }
+        ensures err { OnErr result (self.new ≡ self.old) }
+    {
+        let obj = Obj {
+            class: new.class,
+            extent: new.extent,
+            id: None,
+            level: new.level,
+            modified: false,
+            slots: new.slots,
+            count: 1,
+        };
+        self.add(alloc, number, obj)
+    }
+
+    // Takes the last object out again, which has one holder, where each of the others has one.
+    fn take_last(&mut self, number: u64)
+        ensures { (es : List Entry) (n : NewObj) → self.old ≡ es ++ entry_of_new number n ∷ [] → AllByRecursion HasHolder es → AllByRecursion (λ e. e.number < number) es → self.new ≡ es }
+    {
+        self.lower(number);
+        let _ = self.take_unheld();
+    }
+
+    // Takes the objects behind the last number out again.
+    fn take_back(&mut self, last: u64, number: u64)
+        ensures { (es : List Entry) (news : List NewObj) → self.old ≡ es ++ new_entries last news → number ≡ last + length news → AllByRecursion HasHolder es → AllByRecursion (λ e. e.number < last + 1) es → self.new ≡ es }
+    {
+        let mut left = number;
+        while left > last {
+            self.take_last(left);
+            left -= 1;
+        }
+    }
+
+    /// Adds objects behind the others, with the numbers behind the last one and one holder each; for want of memory
+    /// nothing changes.
+    pub fn add_all(&mut self, alloc: Global, last: u64, news: NewObjs) -> Result<(), NoMemory>
+        requires above { AllByRecursion (λ e. e.number < last + 1) self.old }
+        requires held { AllByRecursion HasHolder self.old }
+        requires room { last + length news.items < 2 ^ 64 }
+        ensures ok { OnOk result (self.new ≡ self.old ++ new_entries last news.items) }
+        ensures err { OnErr result (self.new ≡ self.old) }
+    {
+        let mut number = last;
+        for new in news {
+            match self.add_new(alloc, number + 1, new) {
+                Ok(()) => number += 1,
+                Err(NoMemory) => {
+                    self.take_back(last, number);
+                    return Err(NoMemory);
+                }
+            }
+        }
+        Ok(())
+    }
+
     /// Counts one holder less of the object with the number, if there is one. It takes no memory.
     pub fn lower(&mut self, number: u64)
         ensures { self.new ≡ lowered (number ∷ []) self.old }
@@ -164,6 +225,7 @@ impl Objects {
         ensures ok { IfOk result (λ out. FillsFirst at.now with number self.old self.new (refs_of out)) }
         ensures err { IfErr result (λ back. (back ≡ with) × (self.new ≡ self.old)) }
         ensures slot { (s : ℕ) → at.now ≡ AtSlot s → IsOk result }
+        ensures there { (e : Entry) → first_that (is_entry number) self.old ≡ Some e → IsAmong at.now e.obj.slots → IsOk result }
     {
         edits::fill(alloc, &mut self.rows, number, at, with)
     }

@@ -11,7 +11,7 @@ ghost use Rattle.oref_table.specs.declared.fill.Fill.TheVariants.{Nothing, To};
 ghost use Rattle.oref_table.specs.Refs.{refs_of, refs_in, refs_of_pairs};
 ghost use Rattle.oref_table.specs.Memory.{without_first};
 ghost use Rattle.oref_table.specs.Filling.{slot_from, passed};
-ghost use Rattle.oref_table.specs.Places.{has_key, item_put, items_filled, ItemTakes, pairs_filled, PairTakes, with_members, MemberTakes, slot_number as number_in, PartTakes, PartFills, Takes, Fills, IsExchange};
+ghost use Rattle.oref_table.specs.Places.{has_key, item_put, items_filled, ItemTakes, pairs_filled, PairTakes, with_members, MemberTakes, slot_number as number_in, PartTakes, PartFills, Takes, Fills, IsAmong, IsExchange, IsThere};
 
 use crate::fill::{Fill, Place, fill_of, slot_of};
 use crate::oref::{Held, Oref};
@@ -48,6 +48,7 @@ fn put_item(items: Slots, at: usize, item: Slot) -> (Slots, Result<Slot, Slot>)
     requires { at ≤ length items }
     ensures ok { IfOk result.1 (λ old. (result.0 ≡ item_put at item items) × IsExchange (refs_in items) (refs_of item) (refs_in result.0) (refs_of old)) }
     ensures err { IfErr result.1 (λ back. (back ≡ item) × (result.0 ≡ items)) }
+    ensures there { at < length items → IsOk result.1 }
 {
     if at == items.len() {
         return push_item(items, item);
@@ -73,6 +74,7 @@ fn put_filling(items: Slots, at: usize, with: Fill) -> (Slots, Result<Slot, Fill
     requires filling { with ≢ Nothing }
     ensures ok { IfOk result.1 (λ old. (result.0 ≡ item_put at (slot_from with) items) × IsExchange (refs_in items) (passed with) (refs_in result.0) (refs_of old)) }
     ensures err { IfErr result.1 (λ back. (back ≡ with) × (result.0 ≡ items)) }
+    ensures there { at < length items → IsOk result.1 }
 {
     let (items, put) = put_item(items, at, slot_of(with));
     match put {
@@ -87,6 +89,7 @@ fn fill_items(items: Slots, at: usize, with: Fill) -> (Slots, Result<Slot, Fill>
     requires { ItemTakes at with items }
     ensures ok { IfOk result.1 (λ old. (result.0 ≡ items_filled at with items) × IsExchange (refs_in items) (passed with) (refs_in result.0) (refs_of old)) }
     ensures err { IfErr result.1 (λ back. (back ≡ with) × (result.0 ≡ items)) }
+    ensures there { at < length items → IsOk result.1 }
 {
     match with {
         Fill::Nothing => {
@@ -102,6 +105,7 @@ fn fill_list(old: Slot, at: usize, with: Fill) -> (Slot, Result<Slot, Fill>)
     requires { (items : List Slot) × (old ≡ Items items) × ItemTakes at with items }
     ensures ok { IfOk result.1 (λ out. ((items : List Slot) × (old ≡ Items items) × (result.0 ≡ Items (items_filled at with items))) × IsExchange (refs_of old) (passed with) (refs_of result.0) (refs_of out)) }
     ensures err { IfErr result.1 (λ back. (back ≡ with) × (result.0 ≡ old)) }
+    ensures there { (items : List Slot) → old ≡ Items items → at < length items → IsOk result.1 }
 {
     match old {
         Slot::Items(items) => {
@@ -179,6 +183,7 @@ fn put_pair(
     requires { IsTrue (is_sorted sub_cmp pairs) }
     ensures ok { IfOk result.1 (λ old. (result.0 ≡ put sub_cmp key.now slot pairs) × IsExchange (refs_of_pairs pairs) (refs_of slot) (refs_of_pairs result.0) (refs_of old)) }
     ensures err { IfErr result.1 (λ back. (back ≡ slot) × (result.0 ≡ pairs)) }
+    ensures there { IsSome (find sub_cmp key.now pairs) → IsOk result.1 }
 {
     match pair_place(pairs.as_slice(), key) {
         Ok(at) => {
@@ -200,6 +205,7 @@ fn put_pair_filling(
     requires filling { with ≢ Nothing }
     ensures ok { IfOk result.1 (λ old. (result.0 ≡ put sub_cmp key.now (slot_from with) pairs) × IsExchange (refs_of_pairs pairs) (passed with) (refs_of_pairs result.0) (refs_of old)) }
     ensures err { IfErr result.1 (λ back. (back ≡ with) × (result.0 ≡ pairs)) }
+    ensures there { IsSome (find sub_cmp key.now pairs) → IsOk result.1 }
 {
     let (pairs, put) = put_pair(alloc, pairs, key, slot_of(with));
     match put {
@@ -237,6 +243,7 @@ fn fill_pairs(
     requires takes { PairTakes key.now with pairs }
     ensures ok { IfOk result.1 (λ old. (result.0 ≡ pairs_filled key.now with pairs) × IsExchange (refs_of_pairs pairs) (passed with) (refs_of_pairs result.0) (refs_of old)) }
     ensures err { IfErr result.1 (λ back. (back ≡ with) × (result.0 ≡ pairs)) }
+    ensures there { IsSome (find sub_cmp key.now pairs) → IsOk result.1 }
 {
     match with {
         Fill::Nothing => {
@@ -252,6 +259,7 @@ fn fill_map(alloc: Global, old: Slot, key: &Sub, with: Fill) -> (Slot, Result<Sl
     requires { (pairs : List (Sub × Slot)) × (old ≡ Map pairs) × IsTrue (is_sorted sub_cmp pairs) × PairTakes key.now with pairs }
     ensures ok { IfOk result.1 (λ out. ((pairs : List (Sub × Slot)) × (old ≡ Map pairs) × (result.0 ≡ Map (pairs_filled key.now with pairs))) × IsExchange (refs_of old) (passed with) (refs_of result.0) (refs_of out)) }
     ensures err { IfErr result.1 (λ back. (back ≡ with) × (result.0 ≡ old)) }
+    ensures there { (pairs : List (Sub × Slot)) → old ≡ Map pairs → IsSome (find sub_cmp key.now pairs) → IsOk result.1 }
 {
     match old {
         Slot::Map(pairs) => {
@@ -329,6 +337,7 @@ fn fill_part(alloc: Global, old: Slot, at: &Place, with: Fill) -> (Slot, Result<
     ensures ok { IfOk result.1 (λ out. PartFills at.now with old result.0 × IsExchange (refs_of old) (passed with) (refs_of result.0) (refs_of out)) }
     ensures err { IfErr result.1 (λ back. (back ≡ with) × (result.0 ≡ old)) }
     ensures slot { (s : ℕ) → at.now ≡ AtSlot s → IsOk result.1 }
+    ensures there { IsThere at.now old → IsOk result.1 }
 {
     match at {
         Place::Slot(_) => (slot_of(with), Ok(old)),
@@ -345,6 +354,7 @@ pub fn fill_slots(alloc: Global, slots: &mut Slots, at: &Place, with: Fill) -> R
     ensures ok { IfOk result (λ out. Fills at.now with slots.old slots.new × IsExchange (refs_in slots.old) (passed with) (refs_in slots.new) (refs_of out)) }
     ensures err { IfErr result (λ back. (back ≡ with) × (slots.new ≡ slots.old)) }
     ensures slot { (s : ℕ) → at.now ≡ AtSlot s → IsOk result }
+    ensures there { IsAmong at.now slots.old → IsOk result }
 {
     let slot = slot_number(at) as usize;
     let old = slots.replace(slot, Slot::Target(None));

@@ -7,16 +7,17 @@ ghost use Rattle.obj_kinds.specs.declared.memory.Lack.TheVariants.{Count};
 ghost use Rattle.oref_table.specs.Refs.{refs_in, times};
 ghost use Rattle.oref_table.specs.Sound.{IsFree, HasKey, IsSound};
 ghost use Rattle.oref_table.specs.Kept.{as_kept, holders_of};
-ghost use Rattle.oref_table.specs.Memory.{outside_of, loosed, edited, tighten, with_id, with_level, with_mark, with_object, fresh, holders, object_of, IsLive};
+ghost use Rattle.oref_table.specs.Memory.{outside_of, loosed, edited, tighten, with_id, with_level, with_mark, with_object, fresh, holders, object_of, IsLive, Object};
 ghost use Rattle.oref_table.specs.Dropping.{dropped};
+ghost use Rattle.oref_table.specs.Making.{refs_of_new, with_all};
 ghost use Rattle.oref_table.specs.Filling.{InsertsItem, DropsMember, HasItems, HasMember, IsHeldFor, passed};
-ghost use Rattle.oref_table.specs.Places.{MayFill, IsFilledTo};
+ghost use Rattle.oref_table.specs.Places.{IsAmong, MayFill, IsFilledTo};
 ghost use Rattle.oref_table.specs.declared.fill.Place.TheVariants.{Slot as AtSlot};
 ghost use Rattle.oref_table.specs.declared.fill.Fill.TheVariants.{Nothing};
 
 use crate::counts::give_up;
 use crate::fill::{Fill, Place, fill_of, slot_of};
-use crate::obj::{Obj, Released};
+use crate::obj::{NewObjs, Obj, Released};
 use crate::objects::Objects;
 use crate::oref::{Held, Oref};
 use crate::release::{make_room, release};
@@ -84,7 +85,7 @@ impl Table {
         ensures count { (result ≡ Err Count) ↔ (2 ^ 64 ≤ self.old.last + 1) }
     {
         let number = self.last.checked_add(1).ok_or(Lack::Count)?;
-        make_room(&self.objects, &mut self.released)?;
+        make_room(&self.objects, &mut self.released, 1)?;
         let obj = Obj {
             class,
             extent,
@@ -97,6 +98,23 @@ impl Table {
         self.objects.add(self.alloc, number, obj)?;
         self.last = number;
         Ok(Held { number })
+    }
+
+    /// Several new objects with the next numbers, in their order, all of them or none, without an id or a mark. Each has one
+    /// hold outside, and each OREF in their slots takes one hold outside of the object that it names, which is live or one of
+    /// them. `Count` where fewer numbers are left below 2^64, else `Memory` for want of memory; the table is then as before.
+    /// It costs a logarithm of the number of live objects for each.
+    pub fn make_all(&mut self, news: NewObjs) -> Result<(), Lack>
+        requires { (n : ℕ) → times n (refs_of_new news.items) ≤ outside_of (with_all self.old news.items) n }
+        ensures ok { OnOk result (self.new ≡ loosed (with_all self.old news.items) (refs_of_new news.items)) }
+        ensures err { OnErr result (self.new ≡ self.old) }
+        ensures count { (result ≡ Err Count) ↔ (2 ^ 64 ≤ self.old.last + length news.items) }
+    {
+        let last = self.last.checked_add(news.len() as u64).ok_or(Lack::Count)?;
+        make_room(&self.objects, &mut self.released, news.len())?;
+        self.objects.add_all(self.alloc, self.last, news)?;
+        self.last = last;
+        Ok(())
     }
 
     /// One hold more of a live object. It takes no memory: `Count` where the object has 2^64 - 1 holders already. It costs
@@ -149,7 +167,7 @@ impl Table {
     /// where the place is the number of items, at the end, and `Nothing` takes it out; an element of an array takes the
     /// place of the one of its key, or stands among the others in the order of keys, and `Nothing` takes it out; at a
     /// slot `Nothing` leaves no id; among members an object that isn't one yet is added. For want of memory it hands back
-    /// what was to stand there, and the table is as before; a slot takes none. It costs what `let_go` does, and in a
+    /// what was to stand there, and the table is as before; a slot, and an item or an element that is there, take none. It costs what `let_go` does, and in a
     /// collection a move of what stands behind the place.
     pub fn fill(&mut self, oref: Oref, at: &Place, with: Fill) -> Result<(), (Fill, NoMemory)>
         requires live { IsLive self.old oref.0 }
@@ -160,6 +178,7 @@ impl Table {
         ensures err { OnErr result (self.new ≡ self.old) }
         ensures back { IfErr result (λ e. e.0 ≡ with) }
         ensures slot { (s : ℕ) → at.now ≡ AtSlot s → IsOk result }
+        ensures there { (o : Object) → object_of oref.0 self.old.objects ≡ Some o → IsAmong at.now o.slots → IsOk result }
     {
         match self.objects.fill(self.alloc, oref.0, at, with) {
             Ok(out) => {
@@ -261,6 +280,13 @@ impl Table {
         ensures held { AllByRecursion (λ o. 0 < holders self.now.objects o) self.now.objects }
     {
         self.objects.len()
+    }
+
+    /// The last number that was given, 0 before the first. It takes no memory.
+    pub fn last_number(&self) -> u64
+        ensures { result ≡ self.now.last }
+    {
+        self.last
     }
 
     /// What is told of the objects that were released since it was cleared, in this order. It takes

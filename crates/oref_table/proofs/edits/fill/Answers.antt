@@ -1,3 +1,5 @@
+use Rattle.std.proofs.Common.{subst}
+use Rattle.oref_table.specs.Places.{IsAmong}
 use Rattle.std.proofs.Common.{◌≡◌, ◌==◌, List, ap, sym, ◌∙◌}
 use Rattle.std.specs.Option.{option_copied_mut}
 use Rattle.oref_table.specs.declared.obj.Obj.{Obj}
@@ -29,3 +31,9 @@ returns-in-Some-clause-err c =
     err_then (λ back. (back ≡ c.args.with) × (c.fill_obj.new.obj ≡ c.in-Some.obj.now)) (λ back. (back ≡ c.args.with) × ((c.get_mut.follows.lender c.fill_obj.new.obj).entries ≡ c.args.rows.now.entries)) c.fill_obj.result
     (λ back h. (h.0, edit-back c.args.number c.in-Some.obj.now c.fill_obj.new.obj c.args.rows.now.entries (c.get_mut.follows.lender c.fill_obj.new.obj).entries (sym c.get_mut.ensures.value ∙ ap option_copied_mut c.in-Some.is) (c.get_mut.follows.holds c.fill_obj.new.obj).0 h.1))
     c.fill_obj.ensures.err
+
+pub returns-in-Some-clause-there : goal.returns-in-Some-clause-there
+returns-in-Some-clause-there c = λ v found among.
+    let there = sym c.get_mut.ensures.value ∙ ap option_copied_mut c.in-Some.is in
+    let same : v ≡ c.in-Some.obj.now = let both = sym found ∙ there in cc in
+    c.fill_obj.ensures.there (subst (λ (x : Obj). IsAmong c.args.at.now x.slots) same among)

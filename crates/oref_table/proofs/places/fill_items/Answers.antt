@@ -21,4 +21,5 @@ returns-in_default c = record {
       (λ old. (c.put_filling.result.0 ≡ items_filled c.args.at c.args.with c.args.items) × IsExchange (refs_in c.args.items) (passed c.args.with) (refs_in c.put_filling.result.0) (refs_of old))
       c.put_filling.result.1 (λ old h. put_filled c.args.at c.args.with c.args.items c.put_filling.result.0 old c.in_default.not-Nothing h) c.put_filling.ensures.ok;
   err = c.put_filling.ensures.err;
+  there = c.put_filling.ensures.there;
 }

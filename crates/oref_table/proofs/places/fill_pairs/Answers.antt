@@ -20,4 +20,5 @@ returns-in_default c = record {
       (λ old. (c.put_pair_filling.result.0 ≡ pairs_filled c.args.key.now c.args.with c.args.pairs) × IsExchange (refs_of_pairs c.args.pairs) (passed c.args.with) (refs_of_pairs c.put_pair_filling.result.0) (refs_of old))
       c.put_pair_filling.result.1 (λ old h. put_pair_filled c.args.key.now c.args.with c.args.pairs c.put_pair_filling.result.0 old c.in_default.not-Nothing h) c.put_pair_filling.ensures.ok;
   err = c.put_pair_filling.ensures.err;
+  there = c.put_pair_filling.ensures.there;
 }

@@ -3,6 +3,7 @@ use Rattle.oref_table.specs.Refs.{refs_in, refs_of}
 use Rattle.oref_table.specs.Filling.{passed}
 use Rattle.oref_table.specs.Places.{PartFills, Fills, IsExchange}
 use Rattle.oref_table.proofs.PlaceLaws.{ok_then, err_then, slots_filled, slots_back}
+use Rattle.oref_table.proofs.PlaceLaws.{slots_there}
 use Rattle.oref_table.proofs.places.fill_slots.Goals as goal
 
 pub returns-clause-ok : goal.returns-clause-ok
@@ -18,3 +19,6 @@ returns-clause-err c =
     err_then (λ back. (back ≡ c.args.with) × (c.fill_part-part.result.0 ≡ c.replace-old.result)) (λ back. (back ≡ c.args.with) × (c.set.new.self ≡ c.args.slots.now)) c.fill_part-part.result.1
     (λ back h. (h.0, slots_back c.args.slots.now c.replace-old.new.self c.set.new.self c.slot_number-slot.result c.replace-old.result c.fill_part-part.result.0 c.replace-old.ensures.item c.replace-old.ensures.rest c.set.ensures h.1))
     c.fill_part-part.ensures.err
+
+pub returns-clause-there : goal.returns-clause-there
+returns-clause-there c = λ among. c.fill_part-part.ensures.there (slots_there c.args.at.now c.args.slots.now c.slot_number-slot.result c.replace-old.result c.slot_number-slot.ensures c.replace-old.ensures.item among)

@@ -1,3 +1,4 @@
+use Rattle.oref_table.proofs.RowLaws.{row-of}
 use Rattle.oref_table.proofs.IndexLaws as index
 use Rattle.std.specs.HashMap.{spare}
 use Rattle.std.proofs.Common.{◌≡◌}
@@ -25,3 +26,6 @@ pub returns-clause-ok : goal.returns-clause-ok
 returns-clause-ok c =
     ok_then (λ out. FillsRow c.args.at.now c.args.with c.args.number c.self.inside.rows.entries c.fill.new.rows.entries (refs_of out)) (λ out. FillsFirst c.args.at.now c.args.with c.args.number c.args.self.now (entries_in c.fill.new.rows.entries) (refs_of out)) c.fill.result
     (λ out h. fills-first c.args.at.now c.args.with c.args.number c.self.inside.rows.entries c.fill.new.rows.entries c.args.self.now (refs_of out) c.self.view_is h) c.fill.ensures.ok
+
+pub returns-clause-there : goal.returns-clause-there
+returns-clause-there c = λ e found among. c.fill.ensures.there e.obj (row-of c.args.number c.self.inside.rows.entries c.args.self.now e c.self.view_is found) among

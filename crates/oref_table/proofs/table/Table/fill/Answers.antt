@@ -1,3 +1,8 @@
+use Rattle.std.proofs.Common.{◌≡◌, Some}
+use Rattle.oref_table.specs.Memory.{Object, object_of}
+use Rattle.oref_table.specs.Places.{IsAmong}
+use Rattle.oref_table.proofs.EditLaws.{entry-of}
+use Rattle.oref_table.proofs.PlaceLaws.{not_ok}
 use Rattle.std.proofs.Common.{ap, ◌∙◌, sym, subst, arith, vec_capacity, ◌-◌}
 use Rattle.oref_table.specs.Memory.{Memory, edited, loosed}
 use Rattle.oref_table.specs.Refs.{refs_of}
@@ -55,3 +60,8 @@ returns-in-Ok-clause-holds c = λ k.
     ap (λ (w : Memory). outside_of w k) (went c).is
     ∙ filled-holds (memory_of c.self.inside.objects c.self.inside.last c.self.inside.released.items) c.args.oref.0 (λ _. f.slots) (passed c.args.with) f.filled.sound k
     ∙ ap (λ (m : Memory). outside_of m k - times k (passed c.args.with)) c.self.view_is
+
+pub returns-in-Err-clause-there : goal.returns-in-Err-clause-there
+returns-in-Err-clause-there c = λ o found among.
+    let e = entry-of c.args.oref.0 c.self.inside.objects o (subst (λ (m : Memory). object_of c.args.oref.0 m.objects ≡ Some o) (sym c.self.view_is) found) in
+    absurd (not_ok c.fill.result c.in-Err.with c.in-Err.is (c.fill.ensures.there e.0 e.1 (subst (λ (x : Object). IsAmong c.args.at.now x.slots) e.2 among)))
