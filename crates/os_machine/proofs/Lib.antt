@@ -1,0 +1,9 @@
+pub mod Tops
+pub mod ValueLaws
+pub mod VariableLaws
+pub mod Answering
+pub mod Doing
+pub mod Accounts
+pub mod Steps
+pub mod Giving
+pub mod Machines

@@ -1,0 +1,9 @@
+pub mod Stacks
+pub mod Plains
+pub mod Variables
+pub mod Moves
+pub mod Receiving
+pub mod Leading
+pub mod States
+pub mod Places
+pub mod Runs
