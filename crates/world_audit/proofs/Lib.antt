@@ -1,0 +1,15 @@
+pub mod OwnerLaws
+pub mod CounterLaws
+pub mod NodeLaws
+pub mod StartLaws
+pub mod FaultlessLaws
+pub mod RunLaws
+pub mod LeastLaws
+pub mod MarkLaws
+pub mod SideLaws
+pub mod FindLaws
+pub mod EntryMarks
+pub mod StrayLaws
+pub mod FirstLaws
+pub mod AuditLaws
+pub mod OpeningLaws

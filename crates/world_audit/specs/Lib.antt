@@ -1,0 +1,15 @@
+pub mod Openings
+pub mod Counters
+pub mod Owners
+pub mod Objects
+pub mod Faults
+pub mod Laws
+pub mod Least
+pub mod Runs
+pub mod Finds
+pub mod Marks
+pub mod Firsts
+pub mod Counts
+pub mod Strays
+pub mod Sides
+pub mod Answers
