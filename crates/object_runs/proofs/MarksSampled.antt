@@ -14,7 +14,7 @@ use Rattle.record_layout.specs.Rows.{data_node, marker, row_list}
 use Rattle.storage_map.specs.Markers.{row_class}
 use Rattle.storage_map.specs.Entries.{index_key, key_node, entry_node, entry_list}
 use Rattle.storage_map.specs.Changes.{stale, differing}
-use Rattle.record_reading.specs.Damage.{has_legal_entries}
+use Rattle.storage_map.specs.Entries.{has_legal_entries}
 use Rattle.store_calls.specs.Walks.{child, walk}
 use Rattle.object_calls.proofs.Lists.{list_out, text_out}
 use Rattle.object_calls.specs.Extents.{is_at_or_below, has_several}
