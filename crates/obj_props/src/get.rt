@@ -84,7 +84,8 @@ fn find(
     }
 }
 
-fn hold_object(table: &mut Table, oref: Oref) -> Result<Got, ShapeError>
+/// Answers a live object, which is held once more. It takes no memory.
+pub fn hold_object(table: &mut Table, oref: Oref) -> Result<Got, ShapeError>
     requires { IsLive table.old oref.0 }
     ensures got { IfOk result (λ g. g ≡ got.To (record { number = oref.0 })) }
     ensures memory { OnOk result (table.new ≡ edited table.old oref.0 tighten) }
@@ -93,7 +94,8 @@ fn hold_object(table: &mut Table, oref: Oref) -> Result<Got, ShapeError>
     Ok(Got::To(table.hold(oref)?))
 }
 
-fn new_part(
+/// A part that is to have an object, of a class of the schema. It fails only for want of memory.
+pub fn new_part(
     alloc: Global,
     schema: &Schema,
     class: ClassName,

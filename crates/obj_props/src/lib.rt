@@ -8,8 +8,9 @@ mod got;
 mod part;
 mod store;
 
-pub use content::prop_place;
+pub use content::{Content, element_content, prop_place};
 pub use copies::copy_slot;
-pub use get::get_prop;
+pub use get::{get_prop, hold_object, new_part};
 pub use got::{Got, ShapeError};
+pub use part::NewPart;
 pub use store::{fill_slot, give_back, hold_again, soundness};

@@ -146,7 +146,7 @@ append-none : {X : Type 0} (xs : List X) → xs ++ [] ≡ xs
 append-none [] = refl
 append-none (x ∷ xs) = ap (λ ys. x ∷ ys) (append-none xs)
 
-dropped-none : (m : Memory) → AllByRecursion (λ o. 0 < holders m.objects o) m.objects → dropped m ≡ m
+pub dropped-none : (m : Memory) → AllByRecursion (λ o. 0 < holders m.objects o) m.objects → dropped m ≡ m
 unfolding dropped
 dropped-none m h =
     let none : first_unheld m.objects ≡ None = nothing-goes m.objects m.objects h in

@@ -6,4 +6,5 @@ mod hold;
 mod make;
 
 pub use copies::{CopySource, Made, copy_part};
+pub use hold::standing;
 pub use make::copy_object;

@@ -4,3 +4,6 @@ pub mod ElementLaws
 pub mod TakeLaws
 pub mod PropLaws
 pub mod CopyLaws
+pub mod ListLaws
+pub mod StandLaws
+pub mod ReadLaws

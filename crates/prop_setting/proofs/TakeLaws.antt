@@ -85,7 +85,7 @@ legal-plain v legal h = by (out-Value v) refl h
         sym (all_texts-Str is_legal_text t) ∙ ap (all_texts is_legal_text) (sym is) ∙ all
     by (Value-F.List vs) e h = absurd h
 
-plain-element : (classes : List Class) (m : Memory) (i : Item) (v : Value) → IsValue i → IsPlain (out-Value v) → IsElement classes m i (out-Slot (Plain v))
+pub plain-element : (classes : List Class) (m : Memory) (i : Item) (v : Value) → IsValue i → IsPlain (out-Value v) → IsElement classes m i (out-Slot (Plain v))
 plain-element classes m of.Text v k h = subst (λ s. IsElement classes m of.Text s) (sym (out-Plain v)) h
 plain-element classes m of.Whole v k h = subst (λ s. IsElement classes m of.Whole s) (sym (out-Plain v)) h
 plain-element classes m of.Truth v k h = subst (λ s. IsElement classes m of.Truth s) (sym (out-Plain v)) h

@@ -1,3 +1,5 @@
 pub mod Elements
 pub mod Sets
 pub mod Fits
+pub mod Standings
+pub mod Lists

@@ -41,7 +41,7 @@ struct Spot<'a> {
 }
 
 /// Gives back what was to be set, which is refused.
-fn refuse(table: &mut Table, with: Fill, error: ErrorName) -> Result<(), ShapeError>
+pub fn refuse(table: &mut Table, with: Fill, error: ErrorName) -> Result<(), ShapeError>
     requires { IsHeldFor table.old with }
     ensures memory { table.new ≡ let_gone table.old with }
     ensures refused { result ≡ Err (Script error) }
@@ -101,7 +101,7 @@ fn set_value(table: &mut Table, spot: &Spot<'_>, with: Fill) -> Result<(), Shape
     }
 }
 
-fn is_nothing(value: &Value) -> bool
+pub fn is_nothing(value: &Value) -> bool
     ensures { IsTrue result ↔ IsEmptyText (out-Value value.now) }
 {
     match value {
@@ -123,7 +123,7 @@ fn set_nothing(table: &mut Table, spot: &Spot<'_>, value: Value) -> Result<(), S
     Err(ShapeError::Script(ErrorName::CannotSetThisProperty))
 }
 
-fn is_below(table: &Table, schema: &Schema, class: &ClassName, oref: Oref) -> bool
+pub fn is_below(table: &Table, schema: &Schema, class: &ClassName, oref: Oref) -> bool
     ensures { IsTrue result ↔ MayStand schema.now table.now (of.Ref class.now) oref.0 }
 {
     match table.get(oref) {
@@ -172,7 +172,7 @@ fn set_reference(
     }
 }
 
-fn is_of(table: &Table, class: &ClassName, oref: Oref) -> bool
+pub fn is_of(table: &Table, class: &ClassName, oref: Oref) -> bool
     ensures { (classes : List Class) → IsTrue result ↔ MayStand classes table.now (of.Serial class.now) oref.0 }
 {
     match table.get(oref) {
@@ -275,7 +275,7 @@ fn set_kind(table: &mut Table, spot: &Spot<'_>, kind: &Kind, with: Fill) -> Resu
     }
 }
 
-fn props_at<'a>(table: &Table, schema: &'a Schema, oref: Oref) -> &'a [Prop]
+pub fn props_at<'a>(table: &Table, schema: &'a Schema, oref: Oref) -> &'a [Prop]
     ensures { (o : Object) → object_of oref.0 table.now.objects ≡ Some o → result.now ≡ props_in schema.now o }
 {
     match table.get(oref) {
@@ -284,7 +284,8 @@ fn props_at<'a>(table: &Table, schema: &'a Schema, oref: Oref) -> &'a [Prop]
     }
 }
 
-fn level_at(table: &Table, oref: Oref) -> u8
+/// The level of an object.
+pub fn level_at(table: &Table, oref: Oref) -> u8
     ensures { (o : Object) → object_of oref.0 table.now.objects ≡ Some o → result ≡ o.level }
 {
     match table.get(oref) {
@@ -293,7 +294,7 @@ fn level_at(table: &Table, oref: Oref) -> u8
     }
 }
 
-fn prop_in<'a>(props: &'a [Prop], at: usize) -> Option<&'a Prop>
+pub fn prop_in<'a>(props: &'a [Prop], at: usize) -> Option<&'a Prop>
     ensures some { IfSome result (λ prop. slice_get props.now at ≡ Some prop.now) }
     ensures none { IfNone result (slice_get props.now at ≡ None) }
 {

@@ -1,0 +1,3 @@
+pub mod LoadLaws
+pub mod ModeLaws
+pub mod RaiseLaws

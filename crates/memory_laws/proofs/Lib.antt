@@ -1,0 +1,5 @@
+pub mod Dead
+pub mod Keeping
+pub mod SetsKept
+pub mod SidesKept
+pub mod MadeKept

@@ -1,0 +1,76 @@
+-- Sets of properties keep the memory of a process.
+use Rattle.std.specs.Prelude.{◌≡◌, ℕ, IsTrue, List, [], Option, Some, slice_get}
+use Rattle.obj_kinds.specs.declared.name.ClassName.{ClassName}
+use Rattle.obj_kinds.specs.declared.value.Value.TheViews.{out-Value}
+use Rattle.obj_kinds.specs.Limits.{is_legal_text}
+use Rattle.schema_kinds.specs.declared.class.Class.{Class}
+use Rattle.schema_kinds.specs.declared.prop.Prop.{Prop}
+use Rattle.schema_kinds.specs.declared.kind.Kind.{Kind}
+use Rattle.schema_kinds.specs.declared.kind.Kind.TheVariants as kind
+use Rattle.schema_kinds.specs.declared.kind.Item.TheVariants as of
+use Rattle.schema_kinds.specs.Classes.{class_of, props_of, IsBelow}
+use Rattle.record_layout.specs.Shapes.{Form, single, form_of}
+use Rattle.oref_table.specs.declared.slot.Slot.{Slot}
+use Rattle.oref_table.specs.declared.fill.Fill.{Fill}
+use Rattle.oref_table.specs.declared.fill.Fill.TheVariants as fill
+use Rattle.oref_table.specs.Memory.{Object, Memory, object_of}
+use Rattle.oref_table.specs.Filling.{passed}
+use Rattle.obj_shape.specs.Elements.{IsPlain}
+use Rattle.obj_shape.specs.Fitting.{IsSlotOf}
+use Rattle.obj_props.specs.Properties.{prop_place}
+use Rattle.obj_props.specs.Sets.{oref_text, FormSets}
+use Rattle.object_calls.specs.Keys.{ManySide}
+use Rattle.object_members.specs.Seeing.{memories, many_place}
+use Rattle.object_members.specs.Writes.{one_side_set}
+use Rattle.memory_laws.specs.Kept.{IsGood, Keeps}
+
+-- a text within the limits, also where an OREF is taken as one
+abbrev pub IsLegalFill : Memory → Fill → Type 0
+IsLegalFill m (fill.Plain v) = IsPlain (out-Value v)
+IsLegalFill m (fill.To h) = IsTrue (is_legal_text (oref_text m h.number))
+IsLegalFill m _ = Unit {0}
+
+-- a set of a part copies objects; this is of all others
+abbrev pub TakesNoPart : Option Form → Type 0
+TakesNoPart (Some (single (of.Serial c))) = ⊥
+TakesNoPart _ = Unit {0}
+
+-- a property of one element is set, and the hold on what is set is the set's from then on
+abbrev pub SetsKeep : Type 0
+SetsKeep =
+    (classes : List Class) (m : Memory) (o : Object) (at : ℕ) (p : Prop) (w : Fill) (new : Memory) → IsGood classes m → object_of o.number m.objects ≡ Some o
+    → slice_get (props_of (class_of classes o.class)) at ≡ Some p → TakesNoPart (form_of p.kind) → IsLegalFill m w → FormSets classes m o at (form_of p.kind) w new
+    → Keeps classes m new [] (passed w)
+
+-- a property of that kind has objects of the class as members, or may name them
+abbrev pub HasMembersOf : List Class → ClassName → Kind → Type 0
+HasMembersOf classes name (kind.Many c side) = IsBelow classes name c
+HasMembersOf classes name _ = ⊥
+
+abbrev pub MayName : List Class → ClassName → Kind → Type 0
+MayName classes name (kind.One c side) = IsBelow classes name c
+MayName classes name (kind.Ref c) = IsBelow classes name c
+MayName classes name _ = ⊥
+
+-- what the schema says of the property at a place of a class
+abbrev pub HasAt : List Class → ClassName → Option ℕ → (Kind → Type 0) → Type 0
+HasAt classes class place P = (at : ℕ) (p : Prop) → place ≡ Some at → slice_get (props_of (class_of classes class)) at ≡ Some p → P p.kind
+
+-- each class at or below `c` that has a property of the name of the many side has members of the class by it
+abbrev pub IsInverse : List Class → ClassName → List ℕ → ClassName → Type 0
+IsInverse classes c side name = (class : ClassName) → IsBelow classes class c → HasAt classes class (prop_place side (props_of (class_of classes class))) (HasMembersOf classes name)
+
+-- a one side is set, and the touched members of its targets are kept in step
+abbrev pub OneSidesKeep : Type 0
+OneSidesKeep =
+    (classes : List Class) (m : Memory) (o : Object) (at : ℕ) (p : Prop) (c : ClassName) (side : List ℕ) (slot : Slot) (holds : List ℕ) → IsGood classes m → object_of o.number m.objects ≡ Some o
+    → slice_get (props_of (class_of classes o.class)) at ≡ Some p → p.kind ≡ kind.One c side → IsInverse classes c side o.class → IsSlotOf classes m p slot
+    → Keeps classes m (one_side_set classes m o at side slot holds) [] holds
+
+-- a member was opened, and it and its holder name each other
+abbrev pub MembersKeep : Type 0
+MembersKeep =
+    (classes : List Class) (m : Memory) (side : ManySide) (holder member : ℕ) (h k : Object) → IsGood classes m → object_of holder m.objects ≡ Some h → object_of member m.objects ≡ Some k
+    → HasAt classes k.class (prop_place side.side (props_of (class_of classes k.class))) (MayName classes h.class)
+    → HasAt classes h.class (many_place classes side h.class) (HasMembersOf classes k.class)
+    → Keeps classes m ((memories classes).with_member side holder member m) [] []
