@@ -6,3 +6,8 @@ pub mod Loaded
 pub mod Saved
 pub mod Renamed
 pub mod Opened
+pub mod Again
+pub mod Within
+pub mod Dangling
+pub mod Lacking
+pub mod Moving

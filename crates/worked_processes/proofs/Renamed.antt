@@ -74,35 +74,35 @@ use Rattle.worked_processes.specs.Saving.{new_account, saves_new, runs_out, has_
 
 -- ---- words
 
-abbrev account_of : ℕ → Option (List ℕ) → ℕ → Bool → List ℕ → List ℕ → Slot → ℕ → Object
+abbrev pub account_of : ℕ → Option (List ℕ) → ℕ → Bool → List ℕ → List ℕ → Slot → ℕ → Object
 account_of n id level modified owner number next outside = record { number = n; class = account; extent = Some account; id = id; level = level; modified = modified; slots = Plain (value.Str owner) ∷ Plain (value.Str number) ∷ next ∷ []; outside = outside }
 
-abbrev memory_of : List Object → ℕ → Memory
+abbrev pub memory_of : List Object → ℕ → Memory
 memory_of objects last = record { objects = objects; last = last; freed = [] }
 
-abbrev knows : Memory → ℕ → List ℕ → Known Memory
+abbrev pub knows : Memory → ℕ → List ℕ → Known Memory
 knows m level error = record { memory = m; level = level; test = false; last_error = error }
 
-abbrev is : List ℕ → ℕ → ClassName → Var
+abbrev pub is : List ℕ → ℕ → ClassName → Var
 is x n class = record { name = x; value = Ref n class }
 
-abbrev quits : Rest
+abbrev pub quits : Rest
 quits = leaves None 0 (text_value [])
 
 -- what is left of a script behind so many commands
-abbrev rest : ℕ → List Command → ℕ → Rest
+abbrev pub rest : ℕ → List Command → ℕ → Rest
 rest fuel script n vars = runs None fuel (block (drop n script)) vars quits quits
 
-abbrev command : ℕ → List Command → Block
+abbrev pub command : ℕ → List Command → Block
 command n script = block (take 1 (drop n script))
 
 -- ---- a new account with a number is made
 
-abbrev var_a : Vars
+abbrev pub var_a : Vars
 var_a = is (codes "a") 1 account ∷ []
 
 -- the new account, with how many places outside name it
-abbrev new_one : Bool → List ℕ → List ℕ → ℕ → Memory
+abbrev pub new_one : Bool → List ℕ → List ℕ → ℕ → Memory
 new_one modified owner number outside = memory_of (account_of 1 None 2 modified owner number (Target None) outside ∷ []) 1
 
 module _ (tries fuel : ℕ) (body : Block) (u : ℕ) (rs : List Reply) (go quit : Rest) where

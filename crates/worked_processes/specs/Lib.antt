@@ -1,3 +1,7 @@
 pub mod Bank
 pub mod Loading
 pub mod Saving
+pub mod Again
+pub mod Within
+pub mod Dangling
+pub mod Sides

@@ -1,5 +1,9 @@
 //! Laws of worked processes.
 
+ghost use Rattle.worked_processes.specs.Again.{saves_again};
+ghost use Rattle.worked_processes.specs.Within.{saves_within};
+ghost use Rattle.worked_processes.specs.Dangling.{keeps_dangling};
+ghost use Rattle.worked_processes.specs.Sides.{lacks_target, moves_clerk};
 ghost use Rattle.worked_processes.specs.Bank.{IsWorked};
 ghost use Rattle.worked_processes.specs.Loading.{empty_script, lets_go, opens_later, opens_twice, commits_nothing, writes_ok, overwrites, writes_twice, asks_for_saver, opens_low, sets_in_turn, locks_node, locks_below};
 ghost use Rattle.worked_processes.specs.Saving.{saves_new, runs_out, has_no_id, saves_old, saves_second, saves_held, deletes_holder};
@@ -32,4 +36,19 @@ pub fn worked_processes_with_saves_show_what_was_worked_out()
     ensures saves_second { IsWorked saves_second }
     ensures saves_held { IsWorked saves_held }
     ensures deletes_holder { IsWorked deletes_holder }
+{}
+
+/// Worked processes with saves in transactions of their own ask, note, print and end as was worked out by hand.
+#[tactic(auto, using(crate::proofs::Again::saves_again_worked, crate::proofs::Within::saves_within_worked))]
+pub fn worked_processes_with_transactions_show_what_was_worked_out()
+    ensures saves_again { IsWorked saves_again }
+    ensures saves_within { IsWorked saves_within }
+{}
+
+/// Worked processes over references and sides ask, note, print and end as was worked out by hand.
+#[tactic(auto, using(crate::proofs::Dangling::keeps_dangling_worked, crate::proofs::Lacking::lacks_target_worked, crate::proofs::Moving::moves_clerk_worked))]
+pub fn worked_processes_over_references_show_what_was_worked_out()
+    ensures keeps_dangling { IsWorked keeps_dangling }
+    ensures lacks_target { IsWorked lacks_target }
+    ensures moves_clerk { IsWorked moves_clerk }
 {}
