@@ -1,12 +1,12 @@
 -- Raises by their phases.
-use Rattle.std.proofs.Common.{◌≡◌, ℕ, Bool, true, false, List, [], ◌∷◌, refl, ap, ◌∙◌}
+use Rattle.std.proofs.Common.{◌≡◌, true, List, refl}
 use Rattle.std.specs.Prelude.{nat_lt}
 use Rattle.obj_kinds.specs.declared.name.ClassName.{ClassName}
 use Rattle.obj_kinds.specs.declared.op.Mode.{Mode}
 use Rattle.obj_kinds.specs.declared.op.Reply.{Reply}
 use Rattle.record_layout.specs.Rows.{data_node}
 use Rattle.store_calls.specs.Calls.{bind, Plain, Tried, Got, Lost, try, run}
-use Rattle.object_calls.specs.Asking.{when, lock_counted}
+use Rattle.object_calls.specs.Asking.{lock_counted}
 use Rattle.object_calls.specs.Loads.{raise_lock, raise_ends, raise}
 use Rattle.load_plan.specs.declared.raise.RaiseCall.{RaiseCall}
 use Rattle.load_plan.specs.Raises.{locked}

@@ -1,6 +1,5 @@
 -- What a load has still to do in each of its phases.
-use Rattle.std.specs.Prelude.{◌≡◌, ℕ, suc, Bool, true, false, cond, List, [], Option, None, Some, Result, Ok, Err, length, ◌≤◌}
-use Rattle.obj_kinds.specs.declared.name.ClassName.{ClassName}
+use Rattle.std.specs.Prelude.{◌≡◌, ℕ, suc, Bool, true, false, cond, List, Option, None, Some}
 use Rattle.obj_kinds.specs.declared.op.Op.{Op}
 use Rattle.obj_kinds.specs.declared.op.Reply.{Reply}
 use Rattle.obj_kinds.specs.declared.op.Mode.{Mode}

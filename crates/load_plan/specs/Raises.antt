@@ -1,12 +1,12 @@
 -- What a raise has still to do in each of its phases.
-use Rattle.std.specs.Prelude.{◌≡◌, ◌+◌, ◌&&◌, ◌==◌, ℕ, suc, Bool, true, false, List}
+use Rattle.std.specs.Prelude.{◌≡◌, ◌&&◌, ◌==◌, suc, Bool, true, false, List}
 use Rattle.obj_kinds.specs.declared.name.ClassName.{ClassName}
 use Rattle.obj_kinds.specs.declared.op.Reply.{Reply}
 use Rattle.obj_kinds.specs.declared.op.Mode.TheVariants.{Shared}
 use Rattle.record_layout.specs.Rows.{data_node}
-use Rattle.store_calls.specs.Calls.{Call, Give, Ask, Cut, bind, Plain, Tried, Got, Lost, try, run}
+use Rattle.store_calls.specs.Calls.{Give, Cut, bind, Plain, Tried, Got, Lost, try, run}
 use Rattle.store_calls.specs.Plans.{AsksFor, SaysNext, IsAfter}
-use Rattle.object_calls.specs.Asking.{Does, done, does, when, lock_counted, unlock}
+use Rattle.object_calls.specs.Asking.{Does, does, when, lock_counted, unlock}
 use Rattle.object_calls.specs.Loads.{raise}
 use Rattle.read_plan.specs.Reads.{tried_of}
 use Rattle.load_plan.specs.declared.raise.RaiseCall.{RaiseCall}

@@ -1,5 +1,5 @@
 -- Calls after calls, in either grouping.
-use Rattle.std.proofs.Common.{◌≡◌, ℕ, suc, List, [], ◌∷◌, drop, length, Option, None, Some, refl, sym, ap, ◌∙◌}
+use Rattle.std.proofs.Common.{◌≡◌, ℕ, suc, List, [], ◌∷◌, drop, None, Some, refl, ap, ◌∙◌}
 use Rattle.std.specs.Prelude.{zero, slice_get, map, option_map}
 use Rattle.std.proofs.lemmas.Option.{slice_get-map}
 use Rattle.store_calls.specs.Calls.{Call, Give, Ask, Tell, Cut, bind, Tried, Got, Lost, then, then_on, each}

@@ -1,6 +1,6 @@
 -- Reads, phase by phase.
-use Rattle.std.proofs.Common.{◌≡◌, ℕ, zero, suc, ◌≤◌, Bool, true, false, List, [], ◌∷◌, ◌++◌, drop, length, append-nil, Option, None, Some, Err, refl, sym, ap, subst, ◌∙◌, arith}
-use Rattle.std.specs.Prelude.{◌↔◌, slice_get, ◌+◌, cond, not, is_some, Result}
+use Rattle.std.proofs.Common.{◌≡◌, ℕ, zero, suc, Bool, true, false, List, [], ◌∷◌, ◌++◌, drop, length, append-nil, Option, None, Some, Err, refl, sym, ap, subst, ◌∙◌, arith}
+use Rattle.std.specs.Prelude.{◌↔◌, slice_get, cond, not, is_some, Result}
 use Rattle.std.specs.Option.{option_copied}
 use Rattle.std.specs.List.{flat_map}
 use Rattle.std.proofs.lemmas.List.{append_assoc, length-append}
@@ -31,7 +31,6 @@ use Rattle.record_reading.specs.declared.steps.ListBelow.{ListBelow}
 use Rattle.record_reading.specs.declared.steps.ArrayBelow.{ArrayBelow}
 use Rattle.record_reading.specs.Steps.{list_seen, array_seen, layout_seen}
 use Rattle.store_calls.specs.Calls.{Call, Give, Tag, Tried, Got, Lost, bind, then, then_on, each, Again, round, turns, run}
-use Rattle.store_calls.specs.Plans.{IsAfter}
 use Rattle.store_calls.specs.Walks.{Elements, child, on_key, walk_turn, walk, first_walk}
 use Rattle.store_calls.specs.WalkPlan.{AtKey as walk_at_key, AtElement as walk_at_element, walk_to_come}
 use Rattle.store_calls.proofs.TurnRules.{after_bind}
@@ -47,7 +46,7 @@ use Rattle.read_plan.specs.declared.phase.Walking.{Walking}
 use Rattle.read_plan.specs.declared.phase.Pending.{Pending}
 use Rattle.read_plan.specs.declared.phase.Phase.{Phase}
 use Rattle.read_plan.specs.declared.phase.Phase.TheVariants.{AtRow, AtList, AtKey, AtElement, Full, Over, Told}
-use Rattle.read_plan.specs.Reads.{Pairs, named_node, gathered, arrays_left, lists_left, list_left, array_ends, keys_left, element_left, refuses, with_list, with_pair, with_element, to_come_within, LeavesOf, IsTaken, IsNext, IsOwn, IsBehindList, EndsArray, is_asking, is_at_key, at_key, behind_key, asked_in, tried_of}
+use Rattle.read_plan.specs.Reads.{Pairs, named_node, gathered, arrays_left, lists_left, list_left, array_ends, keys_left, refuses, with_list, with_pair, with_element, to_come_within, LeavesOf, IsTaken, IsNext, IsOwn, IsBehindList, EndsArray, is_asking, is_at_key, at_key, behind_key, asked_in, tried_of}
 use Rattle.read_plan.proofs.CallLaws.{then_then, each_step, seen_at, seen_end}
 use Rattle.read_plan.proofs.WalkLaws.{walk_shift}
 

@@ -1,5 +1,5 @@
 -- Walks that found elements before.
-use Rattle.std.proofs.Common.{◌≡◌, ℕ, zero, suc, Bool, true, false, List, [], ◌∷◌, ◌++◌, Option, None, Some, refl, sym, ap, ◌∙◌}
+use Rattle.std.proofs.Common.{◌≡◌, ℕ, zero, suc, Bool, true, false, [], ◌∷◌, ◌++◌, Option, Some, refl, ap, ◌∙◌}
 use Rattle.std.specs.Prelude.{cond}
 use Rattle.std.proofs.lemmas.List.{append_assoc}
 use Rattle.obj_kinds.specs.declared.node.Node.{Node}
@@ -9,8 +9,8 @@ use Rattle.obj_kinds.specs.declared.op.Op.TheVariants.{Get, Order}
 use Rattle.obj_kinds.specs.declared.op.Reply.{Reply}
 use Rattle.obj_kinds.specs.declared.op.Reply.TheVariants.{Found, Next}
 use Rattle.obj_kinds.specs.declared.cause.Cause.TheVariants.{Damaged}
-use Rattle.store_calls.specs.Calls.{Call, Give, Ask, Tag, Tried, Got, Lost, then, then_on, Round, Again, Ends, round, turns}
-use Rattle.store_calls.specs.Walks.{child, Elements, Walk, on_element, element, on_key, walk_turn, walk}
+use Rattle.store_calls.specs.Calls.{Call, Give, Ask, Tag, Tried, Got, Lost, then, then_on, Again, round, turns}
+use Rattle.store_calls.specs.Walks.{child, Elements, Walk, on_element, on_key, walk_turn, walk}
 
 module _ (n : Node) (tag : Tag) (is_form : Node → Value → Bool) where
   abbrev behind_found : Option Sub → Elements → Walk

@@ -17,10 +17,10 @@ use Rattle.schema_kinds.specs.declared.record.Record.{Record}
 use Rattle.record_layout.specs.Rows.{data_node, below}
 use Rattle.record_layout.specs.Shapes.{Form}
 use Rattle.record_layout.specs.Reading.{merged}
-use Rattle.record_reading.specs.Steps.{list_seen, array_seen, layout_seen}
+use Rattle.record_reading.specs.Steps.{list_seen, layout_seen}
 use Rattle.store_calls.specs.Calls.{Call, Give, Cut, Tag, Tried, Got, Lost, then, each}
 use Rattle.store_calls.specs.Plans.{Bounded, IsAfter, AsksFor, SaysNext}
-use Rattle.store_calls.specs.Walks.{Elements, child, walk, first_walk}
+use Rattle.store_calls.specs.Walks.{Elements, child, walk}
 use Rattle.store_calls.specs.WalkPlan.{AtElement as at_element, walk_to_come}
 use Rattle.object_calls.specs.Extents.{refuses_other, refuses_none}
 use Rattle.object_calls.specs.Reading.{is_element, element_fields, read_list, read_array, within_limits, read}

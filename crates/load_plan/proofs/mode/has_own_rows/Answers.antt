@@ -1,4 +1,4 @@
-use Rattle.std.proofs.Common.{◌≡◌, ap, sym, ◌∙◌, ◌++◌, ◌∷◌, []}
+use Rattle.std.proofs.Common.{ap, sym, ◌∙◌, ◌++◌, ◌∷◌, []}
 use Rattle.std.specs.Prelude.{map, nat_lt, length}
 use Rattle.record_layout.specs.Shapes.{row_forms}
 use Rattle.record_layout.specs.Layout.{own_props}

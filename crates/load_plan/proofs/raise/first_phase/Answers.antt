@@ -1,4 +1,4 @@
-use Rattle.std.proofs.Common.{◌≡◌, ap, ◌∙◌, refl, suc, ◌-◌, ◌<◌, arith}
+use Rattle.std.proofs.Common.{◌≡◌, ap, ◌∙◌, suc, ◌-◌, ◌<◌, arith}
 use Rattle.std.proofs.lemmas.Bool.{lt-ltb}
 use Rattle.obj_kinds.specs.declared.op.Mode.TheVariants.{Shared, Exclusive}
 use Rattle.record_layout.specs.Rows.{data_node}

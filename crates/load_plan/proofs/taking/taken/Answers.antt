@@ -1,5 +1,5 @@
-use Rattle.std.proofs.Common.{◌≡◌, refl, OnOk, Result, Ok, Err}
-use Rattle.load_plan.specs.Loads.{load_of, to_come_within, IsTaken}
+use Rattle.std.proofs.Common.{refl, OnOk, Result, Ok, Err}
+use Rattle.load_plan.specs.Loads.{load_of, to_come_within}
 use Rattle.load_plan.proofs.LoadLaws.{read_taken}
 use Rattle.load_plan.proofs.taking.taken.Goals as goal
 

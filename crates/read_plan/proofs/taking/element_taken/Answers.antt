@@ -1,4 +1,4 @@
-use Rattle.std.proofs.Common.{◌≡◌, ◌∙◌, sym}
+use Rattle.std.proofs.Common.{◌∙◌, sym}
 use Rattle.read_plan.proofs.ReadLaws.{element_lost, element_found}
 use Rattle.read_plan.proofs.taking.element_taken.Goals as goal
 

@@ -1,5 +1,4 @@
-use Rattle.std.proofs.Common.{◌≡◌, OnOk, OnErr, Result, Ok, Err}
-use Rattle.read_plan.specs.Reads.{IsTaken, EndsArray}
+use Rattle.std.proofs.Common.{OnOk, Result, Ok, Err}
 use Rattle.read_plan.proofs.ReadLaws.{key_next, key_last}
 use Rattle.read_plan.proofs.taking.key_taken.Goals as goal
 

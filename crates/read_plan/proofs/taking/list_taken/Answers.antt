@@ -1,4 +1,4 @@
-use Rattle.std.proofs.Common.{◌≡◌, ◌∙◌, ap, sym}
+use Rattle.std.proofs.Common.{◌∙◌, ap, sym}
 use Rattle.read_plan.specs.Reads.{lists_left}
 use Rattle.read_plan.proofs.ReadLaws.{list_lost, list_found}
 use Rattle.read_plan.proofs.taking.list_taken.Goals as goal

@@ -1,4 +1,3 @@
-use Rattle.std.proofs.Common.{◌≡◌}
 use Rattle.read_plan.proofs.ReadLaws.{row_behind}
 use Rattle.read_plan.proofs.taking.taken.Goals as goal
 

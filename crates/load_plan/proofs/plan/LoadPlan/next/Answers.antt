@@ -1,4 +1,4 @@
-use Rattle.std.proofs.Common.{◌≡◌, IfOk, Result, Ok, Err, subst}
+use Rattle.std.proofs.Common.{IfOk, Result, Ok, Err, subst}
 use Rattle.load_plan.specs.Loads.{load_of, IsNext}
 use Rattle.load_plan.proofs.LoadLaws.{next_of_same, no_read}
 use Rattle.load_plan.proofs.plan.LoadPlan.next.Goals as goal

@@ -1,4 +1,3 @@
-use Rattle.std.proofs.Common.{◌≡◌, sym}
 use Rattle.load_plan.specs.Loads.{load_of}
 use Rattle.load_plan.proofs.LoadLaws.{goes_on_asking, goes_behind}
 use Rattle.load_plan.proofs.plan.LoadPlan.read_on.Goals as goal
