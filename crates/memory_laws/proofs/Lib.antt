@@ -3,3 +3,4 @@ pub mod Keeping
 pub mod SetsKept
 pub mod SidesKept
 pub mod MadeKept
+pub mod WritesKept

@@ -3,6 +3,7 @@ use Rattle.std.proofs.Common.{◌≡◌, ℕ, List, [], ◌∷◌, ◌++◌, Opt
 use Rattle.obj_kinds.specs.declared.name.ClassName.{ClassName}
 use Rattle.obj_kinds.specs.declared.value.Value.{Value}
 use Rattle.obj_kinds.specs.declared.value.Value.TheVariants as value
+use Rattle.obj_kinds.specs.declared.value.Value.TheOpen.{Value-F}
 use Rattle.obj_kinds.specs.declared.value.Value.TheViews.{out-Value}
 use Rattle.schema_kinds.specs.declared.class.Class.{Class}
 use Rattle.schema_kinds.specs.declared.prop.Prop.{Prop}
@@ -25,10 +26,14 @@ use Rattle.oref_table.specs.Filling.{passed}
 use Rattle.oref_table.proofs.Lowered.{times-append}
 use Rattle.obj_shape.specs.Elements.{IsPlain}
 use Rattle.obj_shape.specs.Fitting.{IsElement, IsOfKind}
-use Rattle.obj_props.specs.Sets.{oref_text, set_slot, Standing, ValueStands, ReferenceStands, ElementStands, set_standing, FormSets}
+use Rattle.obj_props.specs.Sets.{oref_text, set_slot, Standing, IsText, ValueStands, ReferenceStands, ElementStands, set_standing, FormSets}
 use Rattle.memory_laws.specs.Kept.{IsGood, Keeps}
-use Rattle.memory_laws.specs.Sets.{IsLegalFill, TakesNoPart, SetsKeep}
+use Rattle.memory_laws.specs.Sets.{IsLegalIfText, IsLegalFill, TakesNoPart, SetsKeep}
 use Rattle.memory_laws.proofs.Keeping.{slot-keeps, less-keeps}
+
+legal-text : (x : Value-F Value) → IsText x → IsLegalIfText x → IsPlain x
+legal-text (Value-F.Str text) is legal = legal
+legal-text (Value-F.List vs) is legal = absurd is
 
 -- ---- one after the other
 
@@ -71,7 +76,7 @@ module _ (classes : List Class) (m : Memory) (good : IsGood classes m) (o : Obje
     by_value : ((v : Value) → IsPlain (out-Value v) → IsElement classes m i (Slot-F.Plain v)) → (w : Fill) (st : Standing) → IsLegalFill m w → ValueStands m w st → Keeps classes m (left st) [] (passed w)
     unfolding passed
     by_value takes (fill.Plain v) st legal h =
-        subst (λ t. Keeps classes m (left t) [] []) (sym h.1) (put (Plain v) [] (subst (IsElement classes m i) (sym (plain-out v)) (takes v legal)))
+        subst (λ t. Keeps classes m (left t) [] []) (sym h.1) (put (Plain v) [] (subst (IsElement classes m i) (sym (plain-out v)) (takes v (legal-text (out-Value v) h.0 legal))))
     by_value takes (fill.To a) st legal h =
         let text : Value = value.Str (oref_text m a.number) in
         let plain : IsPlain (out-Value text) = subst IsPlain (sym (str-out (oref_text m a.number))) legal in

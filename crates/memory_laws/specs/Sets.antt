@@ -1,6 +1,8 @@
 -- Sets of properties keep the memory of a process.
 use Rattle.std.specs.Prelude.{◌≡◌, ℕ, IsTrue, List, [], Option, Some, slice_get}
 use Rattle.obj_kinds.specs.declared.name.ClassName.{ClassName}
+use Rattle.obj_kinds.specs.declared.value.Value.{Value}
+use Rattle.obj_kinds.specs.declared.value.Value.TheOpen.{Value-F}
 use Rattle.obj_kinds.specs.declared.value.Value.TheViews.{out-Value}
 use Rattle.obj_kinds.specs.Limits.{is_legal_text}
 use Rattle.schema_kinds.specs.declared.class.Class.{Class}
@@ -15,7 +17,6 @@ use Rattle.oref_table.specs.declared.fill.Fill.{Fill}
 use Rattle.oref_table.specs.declared.fill.Fill.TheVariants as fill
 use Rattle.oref_table.specs.Memory.{Object, Memory, object_of}
 use Rattle.oref_table.specs.Filling.{passed}
-use Rattle.obj_shape.specs.Elements.{IsPlain}
 use Rattle.obj_shape.specs.Fitting.{IsSlotOf}
 use Rattle.obj_props.specs.Properties.{prop_place}
 use Rattle.obj_props.specs.Sets.{oref_text, FormSets}
@@ -25,8 +26,12 @@ use Rattle.object_members.specs.Writes.{one_side_set}
 use Rattle.memory_laws.specs.Kept.{IsGood, Keeps}
 
 -- a text within the limits, also where an OREF is taken as one
+abbrev pub IsLegalIfText : Value-F Value → Type 0
+IsLegalIfText (Value-F.Str text) = IsTrue (is_legal_text text)
+IsLegalIfText (Value-F.List vs) = Unit {0}
+
 abbrev pub IsLegalFill : Memory → Fill → Type 0
-IsLegalFill m (fill.Plain v) = IsPlain (out-Value v)
+IsLegalFill m (fill.Plain v) = IsLegalIfText (out-Value v)
 IsLegalFill m (fill.To h) = IsTrue (is_legal_text (oref_text m h.number))
 IsLegalFill m _ = Unit {0}
 

@@ -75,7 +75,7 @@ module _ (classes : List Class) (key : Key) (g : Globals) (r : Record) (storable
   unfolding read_record
   record_there = rw (found_there, class_there, fields_there) refl
 
-  told_there : record_told classes key (entries g) ≡ Got (Some r)
+  pub told_there : record_told classes key (entries g) ≡ Got (Some r)
   unfolding record_told
   told_there =
       ap (told_by_row classes key (entries g)) found_there

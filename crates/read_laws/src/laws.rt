@@ -1,5 +1,6 @@
 //! Laws of reads by replies.
 
+ghost use Rattle.read_laws.specs.Shown.{ReadsShowWorlds};
 ghost use Rattle.read_laws.specs.Undisturbed.{ReadsTellNodes, ReadsAnswerRecords, ReadsAnswerStoredRecords};
 
 /// The law of reads: by the replies of a store that nobody changes meanwhile, a read of a key answers what the nodes of its globals
@@ -15,4 +16,11 @@ pub fn reads_tell_what_nodes_are()
 #[tactic(auto, using(crate::proofs::StoredLaws::reads_answer_stored_records))]
 pub fn reads_answer_what_stands()
     ensures { ReadsAnswerStoredRecords }
+{}
+
+/// The law of shown worlds: where the nodes of a key are as the image of a world has them, a read of the key answers what the world has
+/// there, a record or none, whatever else stands in the globals.
+#[tactic(auto, using(crate::proofs::ShownLaws::reads_show_worlds))]
+pub fn reads_show_worlds()
+    ensures { ReadsShowWorlds }
 {}

@@ -3,4 +3,4 @@
 
 mod laws;
 
-pub use laws::{reads_answer_what_stands, reads_tell_what_nodes_are};
+pub use laws::{reads_answer_what_stands, reads_show_worlds, reads_tell_what_nodes_are};

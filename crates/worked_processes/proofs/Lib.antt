@@ -11,3 +11,4 @@ pub mod Within
 pub mod Dangling
 pub mod Lacking
 pub mod Moving
+pub mod Ring

@@ -5,3 +5,4 @@ pub mod Again
 pub mod Within
 pub mod Dangling
 pub mod Sides
+pub mod Ring

@@ -2,6 +2,7 @@
 
 ghost use Rattle.worked_processes.specs.Again.{saves_again};
 ghost use Rattle.worked_processes.specs.Within.{saves_within};
+ghost use Rattle.worked_processes.specs.Ring.{saves_ring};
 ghost use Rattle.worked_processes.specs.Dangling.{keeps_dangling};
 ghost use Rattle.worked_processes.specs.Sides.{lacks_target, moves_clerk};
 ghost use Rattle.worked_processes.specs.Bank.{IsWorked};
@@ -51,4 +52,10 @@ pub fn worked_processes_over_references_show_what_was_worked_out()
     ensures keeps_dangling { IsWorked keeps_dangling }
     ensures lacks_target { IsWorked lacks_target }
     ensures moves_clerk { IsWorked moves_clerk }
+{}
+
+/// A worked process that saves a ring asks, notes, prints and ends as was worked out by hand.
+#[tactic(auto, using(crate::proofs::Ring::saves_ring_worked))]
+pub fn worked_processes_with_several_objects_show_what_was_worked_out()
+    ensures saves_ring { IsWorked saves_ring }
 {}
