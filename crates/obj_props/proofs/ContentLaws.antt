@@ -1,8 +1,7 @@
 -- What a slot that fits holds may be read.
-use Rattle.std.proofs.Common.{◌≡◌, ℕ, zero, suc, List, [], ◌∷◌, ◌++◌, map, slice_get, Option, None, Some, IsSome, refl, ap, sym, subst, ◌∙◌}
+use Rattle.std.proofs.Common.{◌≡◌, ℕ, zero, suc, List, [], ◌∷◌, ◌++◌, slice_get, Option, None, Some, IsSome, refl, ap, sym, subst, ◌∙◌}
 use Rattle.std.specs.Option.{IsSomeAnd, option_map}
 use Rattle.obj_kinds.specs.declared.name.ClassName.{ClassName}
-use Rattle.obj_kinds.specs.declared.sub.Sub.{Sub}
 use Rattle.schema_kinds.specs.declared.class.Class.{Class}
 use Rattle.schema_kinds.specs.declared.prop.Prop.{Prop}
 use Rattle.schema_kinds.specs.declared.kind.Kind.{Kind}
@@ -14,7 +13,7 @@ use Rattle.record_layout.specs.Inverse.{EachGood, AreGood}
 use Rattle.record_layout.specs.Shapes.{Form, single, listed, keyed, form_of}
 use Rattle.oref_table.specs.declared.oref.Oref.{Oref}
 use Rattle.oref_table.specs.declared.slot.Slot.{Slot}
-use Rattle.oref_table.specs.declared.slot.Slot.TheVariants.{Plain, Target, Items, Map, Members, rolls-Plain, rolls-Target, rolls-Items}
+use Rattle.oref_table.specs.declared.slot.Slot.TheVariants.{rolls-Plain, rolls-Target, rolls-Items}
 use Rattle.oref_table.specs.declared.slot.Slot.TheOpen.{Slot-F}
 use Rattle.oref_table.specs.declared.slot.Slot.TheViews.{out-Slot, roll-Slot, roll-out-Slot}
 use Rattle.oref_table.specs.Refs.{refs_of, refs_in}
@@ -27,13 +26,12 @@ use Rattle.obj_shape.proofs.FitLaws.{fits-at}
 use Rattle.oref_table.specs.declared.obj.Obj.{Obj}
 use Rattle.oref_table.specs.Kept.{as_kept}
 use Rattle.oref_table.proofs.OrderLaws.{object-number}
-use Rattle.obj_kinds.specs.declared.error_name.ErrorName.{ErrorName}
 use Rattle.obj_kinds.specs.declared.error_name.ErrorName.TheVariants.{PropertyDoesNotExist}
 use Rattle.obj_props.specs.declared.content.Content.{Content}
 use Rattle.obj_props.specs.Changes.{HasSlot}
 use Rattle.obj_props.specs.declared.got.ShapeError.{ShapeError}
 use Rattle.obj_props.specs.declared.got.ShapeError.TheVariants.{Script, Lack}
-use Rattle.obj_props.specs.Properties.{part_content, reference_content, kind_content, prop_place, alone, Read, gives, fails, read_of, slot_read, place_read, object_read, prop_read}
+use Rattle.obj_props.specs.Properties.{part_content, reference_content, kind_content, prop_place, alone, fails, read_of, slot_read, place_read, object_read, prop_read}
 use Rattle.obj_props.specs.Contents.{MayBeRead, IsFound, HasPlace, IsMissing, Tells}
 
 -- what stands at a place is good for what stands there

@@ -1,5 +1,5 @@
 -- What a property that is looked up in an object says of its memory.
-use Rattle.std.proofs.Common.{◌≡◌, ℕ, List, Option, Some}
+use Rattle.std.proofs.Common.{◌≡◌, ℕ, List, Some}
 use Rattle.std.specs.Prelude.{Result, Ok, Err, IfOk, IfErr}
 use Rattle.std.specs.Option.{option_map}
 use Rattle.schema_kinds.specs.declared.class.Class.{Class}

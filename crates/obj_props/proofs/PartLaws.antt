@@ -1,7 +1,6 @@
 -- What memory has behind a new object, a hold more, and a slot that is filled.
-use Rattle.std.proofs.Common.{◌≡◌, ◌≢◌, ◌<◌, ◌≤◌, ℕ, ◌+◌, ◌-◌, ◌==◌, cond, Bool, true, false, List, [], ◌∷◌, ◌++◌, length, slice_get, slice_set, Option, None, Some, IsSome, refl, ap, sym, subst, ◌∙◌, arith, ◌^◌, lit<}
+use Rattle.std.proofs.Common.{◌≡◌, ◌<◌, ℕ, ◌+◌, ◌==◌, cond, Bool, true, false, List, [], ◌∷◌, ◌++◌, slice_get, slice_set, Option, None, Some, IsSome, refl, ap, sym, subst, ◌∙◌, arith, ◌^◌, lit<}
 use Rattle.std.proofs.lemmas.Bool.{eq-eqb}
-use Rattle.std.specs.List.{flat_map}
 use Rattle.oref_table.specs.declared.oref.Held.{Held}
 use Rattle.oref_table.specs.declared.slot.Slot.{Slot}
 use Rattle.oref_table.specs.declared.slot.Slot.TheVariants.{To}
@@ -9,12 +8,12 @@ use Rattle.oref_table.specs.declared.fill.Fill.{Fill}
 use Rattle.oref_table.specs.declared.fill.Fill.TheVariants as fill
 use Rattle.oref_table.specs.declared.fill.Place.TheVariants as place
 use Rattle.oref_table.specs.Refs.{times, refs_in}
-use Rattle.oref_table.specs.Memory.{Object, Memory, object_of, is_numbered, object_refs, refs_among, holders, changed, edited, loosed, with_object, fresh, tighten}
+use Rattle.oref_table.specs.Memory.{Object, Memory, object_of, is_numbered, object_refs, refs_among, changed, edited, loosed, with_object, fresh, tighten}
 use Rattle.oref_table.specs.Kept.{holders_of, holders_part}
 use Rattle.oref_table.specs.Sound.{IsSound}
 use Rattle.oref_table.specs.Dropping.{dropped}
 use Rattle.oref_table.specs.Filling.{slot_from, passed, with_slot, with_slots}
-use Rattle.oref_table.specs.Places.{Fills, PartFills, PartTakes, MayFill, IsFilledTo}
+use Rattle.oref_table.specs.Places.{PartFills, PartTakes, MayFill, IsFilledTo}
 use Rattle.oref_table.proofs.Lowered.{times-append}
 use Rattle.oref_table.proofs.MakeLaws.{absent-beyond}
 use Rattle.obj_kinds.specs.declared.name.ClassName.{ClassName}

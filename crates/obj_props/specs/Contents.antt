@@ -2,7 +2,6 @@
 use Rattle.std.specs.Prelude.{◌≡◌, ℕ, IsSome, List, [], Option, None, Some, slice_get}
 use Rattle.oref_table.specs.Refs.{refs_in}
 use Rattle.oref_table.specs.Memory.{Memory, IsLive}
-use Rattle.obj_kinds.specs.declared.error_name.ErrorName.{ErrorName}
 use Rattle.obj_kinds.specs.declared.error_name.ErrorName.TheVariants.{PropertyDoesNotExist}
 use Rattle.schema_kinds.specs.declared.class.Class.{Class}
 use Rattle.schema_kinds.specs.declared.prop.Prop.{Prop}

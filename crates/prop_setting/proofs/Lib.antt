@@ -7,3 +7,6 @@ pub mod CopyLaws
 pub mod ListLaws
 pub mod StandLaws
 pub mod ReadLaws
+pub mod ArrayLaws
+pub mod ArrayReadLaws
+pub mod KeyLaws

@@ -227,7 +227,7 @@ none-back m (Some held) h = absurd (h held refl)
 
 -- ---- the items of a list fit
 
-kind-form : (classes : List Class) (m : Memory) (k : Kind) (f : Form) (s : Slot-F Slot) → form_of k ≡ Some f → IsOfKind classes m k s → IsOfForm classes m f s
+pub kind-form : (classes : List Class) (m : Memory) (k : Kind) (f : Form) (s : Slot-F Slot) → form_of k ≡ Some f → IsOfKind classes m k s → IsOfForm classes m f s
 kind-form classes m kind.Text f s e h = subst (λ g. IsOfSomeForm classes m g s) e h
 kind-form classes m kind.Whole f s e h = subst (λ g. IsOfSomeForm classes m g s) e h
 kind-form classes m kind.Truth f s e h = subst (λ g. IsOfSomeForm classes m g s) e h

@@ -3,3 +3,4 @@ pub mod Sets
 pub mod Fits
 pub mod Standings
 pub mod Lists
+pub mod Arrays

@@ -28,18 +28,18 @@ use oref_table::{Fill, Oref, Slot, Table};
 use schema_kinds::{Item, Kind, Schema};
 use std::alloc::Global;
 
-/// A list: the property of a live object.
+/// A collection: the property of a live object.
 #[derive(Clone, Copy)]
-pub struct ListAt<'a> {
+pub struct CollectionAt<'a> {
     pub alloc: Global,
     pub schema: &'a Schema,
     pub oref: Oref,
     pub prop: &'a [u8],
 }
 
-/// The slot of a list, its elements and their number.
+/// The slot of a collection, its elements and their number.
 #[derive(Clone, Copy)]
-pub struct ListSpot<'a> {
+pub struct CollectionSpot<'a> {
     pub at: u32,
     pub item: &'a Item,
     pub len: u64,
@@ -70,7 +70,7 @@ pub fn slot_in<'a>(slots: &'a [Slot], at: usize) -> Option<&'a Slot>
 }
 
 /// The slot of the list, its elements and their number. It takes no memory.
-pub fn find_list<'a>(table: &Table, list: &ListAt<'a>) -> ListSpot<'a>
+pub fn find_list<'a>(table: &Table, list: &CollectionAt<'a>) -> CollectionSpot<'a>
     requires whole { IsWhole list.now.schema.now }
     requires fits { TableFits list.now.schema.now table.now }
     requires list { HasList list.now.schema.now table.now list.now.oref.0 list.now.prop.now }
@@ -83,15 +83,15 @@ pub fn find_list<'a>(table: &Table, list: &ListAt<'a>) -> ListSpot<'a>
     let item = list_item(&prop.kind).unwrap();
     let slots = object_slots(table, list.oref);
     let slot = slot_in(slots, at).unwrap();
-    ListSpot {
+    CollectionSpot {
         at: at as u32,
         item,
         len: slot_items(slot).len() as u64,
     }
 }
 
-// For want of memory what was to be set is given back.
-fn lack(table: &mut Table, with: Fill) -> Result<(), ShapeError>
+/// For want of memory what was to be set is given back.
+pub fn lack(table: &mut Table, with: Fill) -> Result<(), ShapeError>
     requires { IsHeldFor table.old with }
     ensures memory { table.new ≡ let_gone table.old with }
     ensures lack { IfErr result IsLack }
@@ -104,8 +104,8 @@ fn lack(table: &mut Table, with: Fill) -> Result<(), ShapeError>
 
 fn put_element(
     table: &mut Table,
-    list: &ListAt<'_>,
-    spot: &ListSpot<'_>,
+    list: &CollectionAt<'_>,
+    spot: &CollectionSpot<'_>,
     place: u64,
     with: Fill,
 ) -> Result<(), ShapeError>
@@ -134,8 +134,8 @@ fn put_element(
 
 fn add_element(
     table: &mut Table,
-    list: &ListAt<'_>,
-    spot: &ListSpot<'_>,
+    list: &CollectionAt<'_>,
+    spot: &CollectionSpot<'_>,
     before: u64,
     with: Fill,
 ) -> Result<(), ShapeError>
@@ -171,7 +171,7 @@ fn add_element(
 }
 
 /// How many items the list has. It takes no memory.
-pub fn list_count(list: &ListAt<'_>, table: &Table) -> u64
+pub fn list_count(list: &CollectionAt<'_>, table: &Table) -> u64
     requires whole { IsWhole list.now.schema.now }
     requires fits { TableFits list.now.schema.now table.now }
     requires list { HasList list.now.schema.now table.now list.now.oref.0 list.now.prop.now }
@@ -186,7 +186,7 @@ pub fn list_count(list: &ListAt<'_>, table: &Table) -> u64
 /// `<ILLEGAL VALUE>` where there is no such position. At a refusal the hold of what was given is let go, which is the only
 /// change.
 pub fn list_set(
-    list: &ListAt<'_>,
+    list: &CollectionAt<'_>,
     table: &mut Table,
     position: i64,
     with: Fill,
@@ -216,7 +216,7 @@ pub fn list_set(
 /// marks the object as modified. The script errors, and what a refusal leaves, are those of `list_set`. It costs a move of the
 /// items behind the position.
 pub fn list_insert_at(
-    list: &ListAt<'_>,
+    list: &CollectionAt<'_>,
     table: &mut Table,
     position: i64,
     with: Fill,
@@ -244,7 +244,7 @@ pub fn list_insert_at(
 
 /// Puts an item behind the last one, and marks the object as modified. The script errors are those of what the item doesn't take;
 /// what a refusal leaves is as for `list_set`.
-pub fn list_insert(list: &ListAt<'_>, table: &mut Table, with: Fill) -> Result<(), ShapeError>
+pub fn list_insert(list: &CollectionAt<'_>, table: &mut Table, with: Fill) -> Result<(), ShapeError>
     requires whole { IsWhole list.now.schema.now }
     requires named { AreNamed list.now.schema.now }
     requires fits { TableFits list.now.schema.now table.old }
@@ -266,7 +266,11 @@ pub fn list_insert(list: &ListAt<'_>, table: &mut Table, with: Fill) -> Result<(
 /// Takes the item at a position, counted from 1, out of the list, and marks the object as modified. What stood there is let go.
 /// The script error `<ILLEGAL VALUE>` comes exactly where there is no such position, and then nothing changes. It takes no memory,
 /// and costs a move of the items behind the position.
-pub fn list_remove(list: &ListAt<'_>, table: &mut Table, position: i64) -> Result<(), ShapeError>
+pub fn list_remove(
+    list: &CollectionAt<'_>,
+    table: &mut Table,
+    position: i64,
+) -> Result<(), ShapeError>
     requires whole { IsWhole list.now.schema.now }
     requires fits { TableFits list.now.schema.now table.old }
     requires list { HasList list.now.schema.now table.old list.now.oref.0 list.now.prop.now }

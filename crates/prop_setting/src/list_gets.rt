@@ -11,7 +11,7 @@ ghost use Rattle.obj_props.specs.Contents.{IsLack, MayBeRead};
 ghost use Rattle.obj_props.specs.Properties.{alone, element_content as content_of_element, gives, part_made, read_of};
 ghost use Rattle.prop_setting.specs.Lists.{HasItemsAt, HasList, IsList, IsListAt, IsListOf, ListReads};
 
-use crate::list_calls::{ListAt, ListSpot, find_list, slot_in};
+use crate::list_calls::{CollectionAt, CollectionSpot, find_list, slot_in};
 use crate::lists::{fill_item, item_place};
 use crate::set::level_at;
 use obj_kinds::{Lack, NoMemory, Text, Value};
@@ -25,8 +25,8 @@ use oref_table::{Fill, Held, Oref, Table};
 // What the item at the place holds.
 fn item_content(
     table: &Table,
-    list: &ListAt<'_>,
-    spot: &ListSpot<'_>,
+    list: &CollectionAt<'_>,
+    spot: &CollectionSpot<'_>,
     place: u64,
 ) -> Result<Content, NoMemory>
     requires list { IsListOf list.now.schema.now table.now list.now.oref.0 spot.now.at spot.now.item.now spot.now.len }
@@ -65,8 +65,8 @@ fn make_item_part(
 
 fn read_item(
     table: &mut Table,
-    list: &ListAt<'_>,
-    spot: &ListSpot<'_>,
+    list: &CollectionAt<'_>,
+    spot: &CollectionSpot<'_>,
     place: u64,
     content: Content,
 ) -> Result<Got, ShapeError>
@@ -92,7 +92,11 @@ fn read_item(
 /// there, which is to be opened first; the empty text where a reference has none, and outside of the list. A part without an object
 /// gets one, of the next number and with the level of the list's object, and an empty one is made where there is no part. No error of
 /// the script comes; at any refusal the table is as before. It costs a copy of what is answered.
-pub fn list_get(list: &ListAt<'_>, table: &mut Table, position: i64) -> Result<Got, ShapeError>
+pub fn list_get(
+    list: &CollectionAt<'_>,
+    table: &mut Table,
+    position: i64,
+) -> Result<Got, ShapeError>
     requires whole { IsWhole list.now.schema.now }
     requires fits { TableFits list.now.schema.now table.old }
     requires list { HasList list.now.schema.now table.old list.now.oref.0 list.now.prop.now }
