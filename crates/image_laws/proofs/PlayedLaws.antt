@@ -36,7 +36,7 @@ played-append s p (x ∷ xs) ys = played-append (after s p x) p xs ys
 
 -- ---- kills
 
-killed-globals : (s : State) (p : Pid) (k n : Node) → get (after s p (Kill k)).globals n ≡ cond (covers k n) None (get s.globals n)
+pub killed-globals : (s : State) (p : Pid) (k n : Node) → get (after s p (Kill k)).globals n ≡ cond (covers k n) None (get s.globals n)
 unfolding after turn
 killed-globals s p k n = get-retain_keys s.globals (λ m. not (covers k m)) n (λ x e. ap (λ m. not (covers k m)) (sym (node_exact n x e))) ∙ by (covers k n)
   where
@@ -56,7 +56,7 @@ kills s p (k ∷ ks) n = kills (after s p (Kill k)) p ks n ∙ ap (cond (list_an
 
 -- ---- sets
 
-set-globals : (s : State) (p : Pid) (e : Node × Value) (n : Node) → get (after s p (set_of e)).globals n ≡ cond (eq_by_cmp node_cmp n e.0) (Some e.1) (get s.globals n)
+pub set-globals : (s : State) (p : Pid) (e : Node × Value) (n : Node) → get (after s p (set_of e)).globals n ≡ cond (eq_by_cmp node_cmp n e.0) (Some e.1) (get s.globals n)
 unfolding after turn
 set-globals s p e n = get-insert node_total s.globals e.0 e.1 n
 

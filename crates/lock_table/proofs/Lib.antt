@@ -1,4 +1,4 @@
-mod HoldOrder
+pub mod HoldOrder
 pub mod HoldLaws
 pub mod KeptLaws
 mod CallLaws

@@ -17,7 +17,7 @@ use Rattle.obj_shape.specs.Fitting.{IsSlotOf, FitsSchema, TableFits}
 use Rattle.obj_shape.proofs.FitLaws.{fits-at}
 use Rattle.obj_shape.proofs.Keeping.{fits-edited, fits-loosed, fits-dropped}
 use Rattle.obj_shape.proofs.Moves.{objects-move}
-use Rattle.obj_props.specs.Sets.{changed_slot, set_slot}
+use Rattle.prop_setting.specs.Elements.{changed_slot, slot_set}
 use Rattle.memory_laws.specs.Kept.{IsGood, Keeps, StartsGood, PlacesKeep, CallsKeep, SlotSetsKeep}
 use Rattle.memory_laws.proofs.Dead.{none-both, dead-object}
 
@@ -135,7 +135,8 @@ module _ (classes : List Class) (m : Memory) (good : IsGood classes m) where
       good-edited classes m good o.number (changed_slot at slot) (record { number = λ o. refl; class = λ o. refl; extent = λ o. refl; id = λ o. refl })
       (λ q is. let same : o ≡ q = cc in subst (λ x. FitsSchema classes m (changed_slot at slot x)) same (changed-fits o at p slot there new (fits-at classes m o.number o good.fits live)))
 
-  pub slot-keeps : (o : Object) (at : ℕ) (p : Prop) (slot : Slot) (passed : List ℕ) → object_of o.number m.objects ≡ Some o → slice_get (props_of (class_of classes o.class)) at ≡ Some p → IsSlotOf classes m p slot → Keeps classes m (set_slot m o.number at slot passed) [] passed
+  pub slot-keeps : (o : Object) (at : ℕ) (p : Prop) (slot : Slot) (passed : List ℕ) → object_of o.number m.objects ≡ Some o → slice_get (props_of (class_of classes o.class)) at ≡ Some p → IsSlotOf classes m p slot → Keeps classes m (slot_set m o.number at slot passed) [] passed
+  unfolding slot_set
   slot-keeps o at p slot passed live there new =
       let first = good-slot o at p slot live there new in
       let second = good-loosed classes (edited m o.number (changed_slot at slot)) first passed in

@@ -21,7 +21,7 @@ use Rattle.obj_shape.specs.Fitting.{NamesObject, IsElement, IsOfKind, IsSlotOf, 
 use Rattle.obj_shape.proofs.FitLaws.{fits-at}
 use Rattle.obj_shape.proofs.Keeping.{changed-agrees}
 use Rattle.obj_props.specs.Properties.{alone, prop_place}
-use Rattle.obj_props.specs.Sets.{changed_slot}
+use Rattle.prop_setting.specs.Elements.{changed_slot}
 use Rattle.object_calls.specs.Keys.{ManySide}
 use Rattle.object_members.specs.Seeing.{members_in, is_member_number, with_member_oref, slot_put, slot_changed, many_place, holder_put, member_added, with_member}
 use Rattle.object_members.specs.Writes.{without_member_oref, members_changed, member_left, member_joined, left_by, one_side_set}

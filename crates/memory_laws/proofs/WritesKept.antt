@@ -21,20 +21,22 @@ use Rattle.oref_table.specs.declared.slot.Slot.TheVariants.{Target, To}
 use Rattle.oref_table.specs.declared.fill.Fill.{Fill}
 use Rattle.oref_table.specs.declared.fill.Fill.TheVariants as fill
 use Rattle.oref_table.specs.Memory.{Object, Memory, object_of, is_numbered, changed, edited, tighten}
-use Rattle.oref_table.specs.Filling.{passed}
+use Rattle.oref_table.specs.Filling.{slot_from, passed}
 use Rattle.obj_shape.specs.Fitting.{IsOfKind, IsSlotOf}
+use Rattle.obj_shape.specs.Wholeness.{IsWhole}
 use Rattle.obj_props.specs.Properties.{prop_place}
-use Rattle.obj_props.specs.Sets.{Standing, ReferenceStands, ElementStands, FormSets, set_standing, element_error}
+use Rattle.prop_setting.specs.Elements.{Standing, ObjectTakes, Takes, reference_standing, standing, stood, given_back, error_of}
+use Rattle.prop_setting.specs.Sets.{FormSets}
 use Rattle.oref_table.specs.declared.slot.Slot.TheViews.{out-Slot}
 use Rattle.store_calls.specs.Calls.{Call, Give}
 use Rattle.host_meaning.specs.Objects.{Known}
 use Rattle.object_members.specs.Seeing.{props_at}
 use Rattle.object_members.specs.Ends.{with_memory}
-use Rattle.object_members.specs.Standing.{fill_with, held_for, stands}
+use Rattle.object_members.specs.Standing.{fill_with, held_for, takes}
 use Rattle.object_members.specs.Writes.{one_side_set, prop_set, writes_standing, writes_form, writes_prop, writes_place, writes_of, write_prop}
-use Rattle.object_members.proofs.StandLaws.{stands_by_rules}
+use Rattle.object_members.proofs.StandLaws.{takes_by_rules}
 use Rattle.memory_laws.specs.Kept.{IsGood, Keeps}
-use Rattle.memory_laws.specs.Sets.{IsLegalFill, TakesNoPart, IsInverse}
+use Rattle.memory_laws.specs.Sets.{IsLegalFill, IsInverse}
 use Rattle.memory_laws.specs.Writes.{HasInverse, IsSettable, IsThere, WritesKeep}
 use Rattle.memory_laws.proofs.Keeping.{held-keeps}
 use Rattle.memory_laws.proofs.SetsKept.{target-out, to-out, sets_keep}
@@ -77,40 +79,42 @@ numbered n (x ∷ os) o e = by (is_numbered n x) refl e (numbered n os o)
 
 -- ---- one property
 
-module _ (classes : List Class) (m : Memory) (good : IsGood classes m) (o : Object) (live : object_of o.number m.objects ≡ Some o) (at : ℕ) (p : Prop) (there : slice_get (props_of (class_of classes o.class)) at ≡ Some p) (w : Fill) (legal : IsLegalFill m w) where
+module _ (classes : List Class) (m : Memory) (whole : IsWhole classes) (good : IsGood classes m) (o : Object) (live : object_of o.number m.objects ≡ Some o) (at : ℕ) (p : Prop) (there : slice_get (props_of (class_of classes o.class)) at ≡ Some p) (w : Fill) (legal : IsLegalFill m w) where
   -- the rules of sets leave this
-  by_rules : (i : Item) → form_of p.kind ≡ Some (single i) → TakesNoPart (form_of p.kind) → (st : Standing) → ElementStands classes m o.level i w st → Keeps classes m (set_standing o.number at st (λ s. s)) [] (passed w)
-  by_rules i form whole st h =
-      sets_keep classes m o at p w (set_standing o.number at st (λ s. s)) good live there whole legal (subst (λ f. FormSets classes m o at f w (set_standing o.number at st (λ s. s))) (sym form) (st, h, refl))
+  by_rules : (i : Item) → form_of p.kind ≡ Some (single i) → Takes classes m i w → Keeps classes m (stood o.number at (λ s. s) (standing classes m o.level i w)) [] (passed w)
+  by_rules i form h =
+      let left : Memory = stood o.number at (λ s. s) (standing classes m o.level i w) in
+      sets_keep classes m o at p w left whole good live there legal (subst (λ f. FormSets classes m o.number at o.level f w left) (sym form) (h, refl))
 
-  one_side : (c : ClassName) (side : List ℕ) → p.kind ≡ kind.One c side → IsInverse classes c side o.class → (st : Standing) → ReferenceStands classes m c w st → Keeps classes m (prop_set classes o at (kind.One c side) st) [] (passed w)
-  unfolding passed
-  one_side c side is inverse st h = by w h
+  one_side : (c : ClassName) (side : List ℕ) → p.kind ≡ kind.One c side → IsInverse classes c side o.class → ObjectTakes classes m (of.Ref c) w
+      → Keeps classes m (prop_set classes o at (kind.One c side) (reference_standing m w)) [] (passed w)
+  unfolding passed slot_from given_back
+  one_side c side is inverse h = by w h
     where
       fits : (slot : Slot) → IsOfKind classes m (kind.One c side) (out-Slot slot) → IsSlotOf classes m p slot
       fits slot h = subst (λ k. IsOfKind classes m k (out-Slot slot)) (sym is) h
 
-      by : (w : Fill) → ReferenceStands classes m c w st → Keeps classes m (prop_set classes o at (kind.One c side) st) [] (passed w)
-      by (fill.Plain v) h =
-          subst (λ t. Keeps classes m (prop_set classes o at (kind.One c side) t) [] []) (sym h.1)
-          (one_sides_keep classes m o at p c side (Target None) [] good live there is inverse (fits (Target None) (subst (IsOfKind classes m (kind.One c side)) (sym (target-out None)) tt)))
+      by : (w : Fill) → ObjectTakes classes m (of.Ref c) w → Keeps classes m (prop_set classes o at (kind.One c side) (reference_standing m w)) [] (passed w)
+      by (fill.Plain v) h = one_sides_keep classes m o at p c side (Target None) [] good live there is inverse (fits (Target None) (subst (IsOfKind classes m (kind.One c side)) (sym (target-out None)) tt))
       by (fill.To a) h =
-          subst (λ t. Keeps classes m (prop_set classes o at (kind.One c side) t) [] (a.number ∷ [])) (sym h.1)
-          (one_sides_keep classes m o at p c side (To (record { 0 = a.number })) (a.number ∷ []) good live there is inverse
-          (fits (To (record { 0 = a.number })) (subst (IsOfKind classes m (kind.One c side)) (sym (to-out (record { 0 = a.number }))) h.0)))
+          one_sides_keep classes m o at p c side (To (record { 0 = a.number })) (a.number ∷ []) good live there is inverse
+          (fits (To (record { 0 = a.number })) (subst (IsOfKind classes m (kind.One c side)) (sym (to-out (record { 0 = a.number }))) h))
       by (fill.Target id) h = absurd h
       by fill.Nothing h = absurd h
 
-  by_kind : (kd : Kind) → p.kind ≡ kd → TakesNoPart (form_of p.kind) → HasInverse classes o.class kd → (i : Item) → form_of kd ≡ Some (single i) → (st : Standing) → ElementStands classes m o.level i w st → Keeps classes m (prop_set classes o at kd st) [] (passed w)
-  by_kind (kind.One c side) is whole inverse i form st h = let same : of.Ref c ≡ i = cc in one_side c side is inverse st (subst (λ j. ElementStands classes m o.level j w st) (sym same) h)
-  by_kind kind.Text is whole inverse i form st h = by_rules i (ap form_of is ∙ form) whole st h
-  by_kind kind.Whole is whole inverse i form st h = by_rules i (ap form_of is ∙ form) whole st h
-  by_kind kind.Truth is whole inverse i form st h = by_rules i (ap form_of is ∙ form) whole st h
-  by_kind (kind.Ref c) is whole inverse i form st h = by_rules i (ap form_of is ∙ form) whole st h
-  by_kind (kind.Serial c) is whole inverse i form st h = by_rules i (ap form_of is ∙ form) whole st h
-  by_kind (kind.ListOf j) is whole inverse i form st h = cc
-  by_kind (kind.ArrayOf j) is whole inverse i form st h = cc
-  by_kind (kind.Many c side) is whole inverse i form st h = cc
+  by_kind : (kd : Kind) → p.kind ≡ kd → HasInverse classes o.class kd → (i : Item) → form_of kd ≡ Some (single i) → Takes classes m i w
+      → Keeps classes m (prop_set classes o at kd (standing classes m o.level i w)) [] (passed w)
+  by_kind (kind.One c side) is inverse i form h =
+      let same : of.Ref c ≡ i = cc in
+      subst (λ j. Keeps classes m (prop_set classes o at (kind.One c side) (standing classes m o.level j w)) [] (passed w)) same (one_side c side is inverse (subst (λ j. Takes classes m j w) (sym same) h))
+  by_kind kind.Text is inverse i form h = by_rules i (ap form_of is ∙ form) h
+  by_kind kind.Whole is inverse i form h = by_rules i (ap form_of is ∙ form) h
+  by_kind kind.Truth is inverse i form h = by_rules i (ap form_of is ∙ form) h
+  by_kind (kind.Ref c) is inverse i form h = by_rules i (ap form_of is ∙ form) h
+  by_kind (kind.Serial c) is inverse i form h = by_rules i (ap form_of is ∙ form) h
+  by_kind (kind.ListOf j) is inverse i form h = cc
+  by_kind (kind.ArrayOf j) is inverse i form h = cc
+  by_kind (kind.Many c side) is inverse i form h = cc
 
 -- ---- the call
 
@@ -159,7 +163,7 @@ same-set classes o at (kind.ListOf i) st = refl
 same-set classes o at (kind.ArrayOf i) st = refl
 same-set classes o at (kind.Many c side) st = refl
 
-module _ (classes : List Class) (s t : Known Memory) (n : ℕ) (v : Val) (good : IsGood classes s.memory) (is_there : IsThere s.memory v) (legal : IsLegalFill (held_for v s.memory) (fill_with v)) where
+module _ (classes : List Class) (s t : Known Memory) (n : ℕ) (v : Val) (whole : IsWhole classes) (good : IsGood classes s.memory) (is_there : IsThere s.memory v) (legal : IsLegalFill (held_for v s.memory) (fill_with v)) where
   abbrev held : Memory
   held = held_for v s.memory
 
@@ -167,35 +171,38 @@ module _ (classes : List Class) (s t : Known Memory) (n : ℕ) (v : Val) (good :
   as-before a b e = as-it-was classes s v good is_there legal t a b e
 
   module _ (o : Object) (found : object_of n s.memory.objects ≡ Some o) where
-    module _ (at : ℕ) (p : Prop) (there : slice_get (props_of (class_of classes o.class)) at ≡ Some p) (settable : TakesNoPart (form_of p.kind) × HasInverse classes o.class p.kind) where
-      kept : (i : Item) → form_of p.kind ≡ Some (single i) → (st : Standing) → ElementStands classes held o.level i (fill_with v) st → Keeps classes held (prop_set classes o at p.kind st) [] (passed (fill_with v))
-      kept i form st h = by (found-held s.memory v n o found)
+    module _ (at : ℕ) (p : Prop) (there : slice_get (props_of (class_of classes o.class)) at ≡ Some p) (settable : HasInverse classes o.class p.kind) where
+      abbrev stands_there : Item → Memory
+      stands_there i = prop_set classes o at p.kind (standing classes held o.level i (fill_with v))
+
+      kept : (i : Item) → form_of p.kind ≡ Some (single i) → Takes classes held i (fill_with v) → Keeps classes held (stands_there i) [] (passed (fill_with v))
+      kept i form h = by (found-held s.memory v n o found)
         where
-          here : object_of n held.objects ≡ Some o → Keeps classes held (prop_set classes o at p.kind st) [] (passed (fill_with v))
+          here : object_of n held.objects ≡ Some o → Keeps classes held (stands_there i) [] (passed (fill_with v))
           here e =
-              by_kind classes held (good-held classes s v good is_there legal) o (subst (λ k. object_of k held.objects ≡ Some o) (sym (numbered n s.memory.objects o found)) e) at p there (fill_with v) legal
-              p.kind refl settable.0 settable.1 i form st h
+              by_kind classes held whole (good-held classes s v good is_there legal) o (subst (λ k. object_of k held.objects ≡ Some o) (sym (numbered n s.memory.objects o found)) e) at p there (fill_with v) legal
+              p.kind refl settable i form h
 
-          tight : object_of n held.objects ≡ Some (tighten o) → Keeps classes held (prop_set classes o at p.kind st) [] (passed (fill_with v))
+          tight : object_of n held.objects ≡ Some (tighten o) → Keeps classes held (stands_there i) [] (passed (fill_with v))
           tight e =
-              subst (λ w. Keeps classes held w [] (passed (fill_with v))) (same-set classes o at p.kind st)
-              (by_kind classes held (good-held classes s v good is_there legal) (tighten o) (subst (λ k. object_of k held.objects ≡ Some (tighten o)) (sym (numbered n s.memory.objects o found)) e) at p there (fill_with v) legal
-              p.kind refl settable.0 settable.1 i form st h)
+              subst (λ w. Keeps classes held w [] (passed (fill_with v))) (same-set classes o at p.kind (standing classes held o.level i (fill_with v)))
+              (by_kind classes held whole (good-held classes s v good is_there legal) (tighten o) (subst (λ k. object_of k held.objects ≡ Some (tighten o)) (sym (numbered n s.memory.objects o found)) e) at p there (fill_with v) legal
+              p.kind refl settable i form h)
 
-          by : (object_of n held.objects ≡ Some o) ⊎ (object_of n held.objects ≡ Some (tighten o)) → Keeps classes held (prop_set classes o at p.kind st) [] (passed (fill_with v))
+          by : (object_of n held.objects ≡ Some o) ⊎ (object_of n held.objects ≡ Some (tighten o)) → Keeps classes held (stands_there i) [] (passed (fill_with v))
           by (inl e) = here e
           by (inr e) = tight e
 
-      on_standing : (i : Item) → form_of p.kind ≡ Some (single i) → (x : Option Standing) → stands classes s.memory o.level i v ≡ x → (a : Answer) → writes_standing classes o at p.kind i x s ≡ ended t a → Keeps classes s.memory t.memory [] []
-      on_standing i form None e a g = as-before (answer.Error (element_error i)) a g
-      on_standing i form (Some st) e a g =
-          let w = prop_set classes o at p.kind st in
-          let same : with_memory w s ≡ t = given-first (with_memory w s) t answer.Done a g in
+      on_standing : (i : Item) → form_of p.kind ≡ Some (single i) → (b : Bool) → takes classes held i (fill_with v) ≡ b → (a : Answer)
+          → writes_standing classes o at p.kind i (cond b (Some (standing classes held o.level i (fill_with v))) None) s ≡ ended t a → Keeps classes s.memory t.memory [] []
+      on_standing i form false e a g = as-before (answer.Error (error_of i)) a g
+      on_standing i form true e a g =
+          let same : with_memory (stands_there i) s ≡ t = given-first (with_memory (stands_there i) s) t answer.Done a g in
           subst (λ (x : Known Memory). Keeps classes s.memory x.memory [] []) same
-          (both classes s v good is_there legal w (kept i form st ((stands_by_rules classes held o.level i (fill_with v) st).0 e)))
+          (both classes s v good is_there legal (stands_there i) (kept i form ((takes_by_rules classes held i (fill_with v)).0 e)))
 
       on_form : (f : Option Form) → form_of p.kind ≡ f → (a : Answer) → writes_form classes o at p.kind f v s ≡ ended t a → Keeps classes s.memory t.memory [] []
-      on_form (Some (single i)) form a g = on_standing i form (stands classes s.memory o.level i v) refl a g
+      on_form (Some (single i)) form a g = on_standing i form (takes classes held i (fill_with v)) refl a g
       on_form None form a g = as-before (answer.Error error.CannotSetThisProperty) a g
       on_form (Some (listed i)) form a g = as-before (answer.Error error.CannotSetThisProperty) a g
       on_form (Some (keyed i)) form a g = as-before (answer.Error error.CannotSetThisProperty) a g
@@ -215,4 +222,4 @@ module _ (classes : List Class) (s t : Known Memory) (n : ℕ) (v : Val) (good :
 
 pub writes_keep : WritesKeep
 unfolding write_prop
-writes_keep classes s t n name v a good is_there legal settable g = on_object classes s t n v good is_there legal name (object_of n s.memory.objects) refl settable a g
+writes_keep classes s t n name v a whole good is_there legal settable g = on_object classes s t n v whole good is_there legal name (object_of n s.memory.objects) refl settable a g

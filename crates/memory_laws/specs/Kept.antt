@@ -8,7 +8,7 @@ use Rattle.oref_table.specs.Refs.{times}
 use Rattle.oref_table.specs.Memory.{Object, Memory, object_of, outside_of, IsLive}
 use Rattle.oref_table.specs.Sound.{IsSound}
 use Rattle.obj_shape.specs.Fitting.{IsSlotOf, TableFits}
-use Rattle.obj_props.specs.Sets.{set_slot}
+use Rattle.prop_setting.specs.Elements.{slot_set}
 use Rattle.object_members.specs.Seeing.{memories}
 use Rattle.object_members.specs.MemberObjects.{objects_of}
 
@@ -48,4 +48,4 @@ CallsKeep = (classes : List Class) (m : Memory) → IsGood classes m → CallsHo
 abbrev pub SlotSetsKeep : Type 0
 SlotSetsKeep =
     (classes : List Class) (m : Memory) (o : Object) (at : ℕ) (p : Prop) (slot : Slot) (passed : List ℕ) → IsGood classes m → object_of o.number m.objects ≡ Some o
-    → slice_get (props_of (class_of classes o.class)) at ≡ Some p → IsSlotOf classes m p slot → Keeps classes m (set_slot m o.number at slot passed) [] passed
+    → slice_get (props_of (class_of classes o.class)) at ≡ Some p → IsSlotOf classes m p slot → Keeps classes m (slot_set m o.number at slot passed) [] passed

@@ -18,8 +18,10 @@ use Rattle.oref_table.specs.declared.fill.Fill.TheVariants as fill
 use Rattle.oref_table.specs.Memory.{Object, Memory, object_of}
 use Rattle.oref_table.specs.Filling.{passed}
 use Rattle.obj_shape.specs.Fitting.{IsSlotOf}
+use Rattle.obj_shape.specs.Wholeness.{IsWhole}
 use Rattle.obj_props.specs.Properties.{prop_place}
-use Rattle.obj_props.specs.Sets.{oref_text, FormSets}
+use Rattle.prop_setting.specs.Elements.{oref_text}
+use Rattle.prop_setting.specs.Sets.{FormSets}
 use Rattle.object_calls.specs.Keys.{ManySide}
 use Rattle.object_members.specs.Seeing.{memories, many_place}
 use Rattle.object_members.specs.Writes.{one_side_set}
@@ -35,16 +37,11 @@ IsLegalFill m (fill.Plain v) = IsLegalIfText (out-Value v)
 IsLegalFill m (fill.To h) = IsTrue (is_legal_text (oref_text m h.number))
 IsLegalFill m _ = Unit {0}
 
--- a set of a part copies objects; this is of all others
-abbrev pub TakesNoPart : Option Form → Type 0
-TakesNoPart (Some (single (of.Serial c))) = ⊥
-TakesNoPart _ = Unit {0}
-
--- a property of one element is set, and the hold on what is set is the set's from then on
+-- a property of one element is set, a part too, and the hold on what is set is the set's from then on
 abbrev pub SetsKeep : Type 0
 SetsKeep =
-    (classes : List Class) (m : Memory) (o : Object) (at : ℕ) (p : Prop) (w : Fill) (new : Memory) → IsGood classes m → object_of o.number m.objects ≡ Some o
-    → slice_get (props_of (class_of classes o.class)) at ≡ Some p → TakesNoPart (form_of p.kind) → IsLegalFill m w → FormSets classes m o at (form_of p.kind) w new
+    (classes : List Class) (m : Memory) (o : Object) (at : ℕ) (p : Prop) (w : Fill) (new : Memory) → IsWhole classes → IsGood classes m → object_of o.number m.objects ≡ Some o
+    → slice_get (props_of (class_of classes o.class)) at ≡ Some p → IsLegalFill m w → FormSets classes m o.number at o.level (form_of p.kind) w new
     → Keeps classes m new [] (passed w)
 
 -- a property of that kind has objects of the class as members, or may name them

@@ -26,7 +26,8 @@ pub fn sets_take_holds_in()
     ensures { SlotSetsKeep }
 {}
 
-/// A property of one element, which is no part, is set: the hold on what is set is the set's from then on, and memory stays good.
+/// A property of one element is set, a part as a copy with the objects that it has of its own: the hold on what is set is the set's from
+/// then on, and memory stays good.
 pub fn sets_of_properties_keep_memory()
     ensures { SetsKeep }
 {}
@@ -57,8 +58,8 @@ pub fn saved_objects_keep_memory()
     ensures { SavedObjectsKeep }
 {}
 
-/// A set that a process asks for, whether it is done or refused, leaves a good memory and holds outside as they were, where it is of no
-/// part and the schema's sides fit each other.
+/// A set that a process asks for, whether it is done or refused, leaves a good memory and holds outside as they were, where the schema's
+/// sides fit each other and its parts nest as linking has them.
 pub fn writes_leave_holds_as_they_were()
     ensures { WritesKeep }
 {}

@@ -1,8 +1,7 @@
 -- The members of an array property. Its elements stand in the order of their keys; each change marks its object.
 use Rattle.std.specs.Prelude.{ℕ, pos, Bool, true, false, List, [], ◌∷◌, length, Option, None, Some, is_some}
-use Rattle.std.specs.declared.cmp.Ordering.{Ordering}
-use Rattle.std.specs.declared.cmp.Ordering.TheVariants.{Less}
 use Rattle.std.specs.FinMap.{find, put}
+use Rattle.obj_kinds.specs.declared.value.Value.TheVariants as value
 use Rattle.obj_kinds.specs.declared.error_name.ErrorName.TheVariants as error
 use Rattle.obj_kinds.specs.declared.sub.Sub.{Sub}
 use Rattle.obj_kinds.specs.SubOrder.{sub_cmp}
@@ -11,10 +10,14 @@ use Rattle.schema_kinds.specs.declared.kind.Item.{Item}
 use Rattle.os_kinds.specs.declared.val.Val.{Val}
 use Rattle.os_meaning.specs.Values.{number_value, subscript_of, after_of, sub_value}
 use Rattle.oref_table.specs.declared.slot.Slot.{Slot}
-use Rattle.oref_table.specs.declared.slot.Slot.TheVariants.{To, Map}
-use Rattle.oref_table.specs.Memory.{Object, Memory}
-use Rattle.obj_props.specs.Sets.{Standing, set_standing}
-use Rattle.obj_props.specs.Collections.{array_read, array_removed}
+use Rattle.oref_table.specs.declared.slot.Slot.TheVariants.{Map}
+use Rattle.oref_table.specs.declared.slot.Slot.TheViews.{out-Slot}
+use Rattle.oref_table.specs.Memory.{Object, Memory, without_first}
+use Rattle.oref_table.specs.Places.{has_key}
+use Rattle.obj_props.specs.Properties.{Read, gives, alone, element_content, read_of}
+use Rattle.obj_props.specs.declared.got.Got.TheVariants as got
+use Rattle.prop_setting.specs.Arrays.{next_key}
+use Rattle.prop_setting.specs.Elements.{Standing, slot_set, stood}
 use Rattle.host_meaning.specs.Objects.{ObjectCall}
 use Rattle.object_members.specs.Ends.{with_memory, nothing, yes, no, answers, errs}
 use Rattle.object_members.specs.Arguments.{without_args, with_arg, with_args, checks}
@@ -22,16 +25,14 @@ use Rattle.object_members.specs.Reads.{reads}
 use Rattle.object_members.specs.Lists.{with_standing}
 use Rattle.object_members.specs.ItemMembers.{ItemMember, Count, GetAt, SetAt, RemoveAt, Next}
 
-abbrev pub or_first : Ordering → Sub → Option Sub → Option Sub
-or_first Less k rest = Some k
-or_first _ k rest = rest
+-- the element of the key is read, like a property; there is nothing at a key that no element has
+abbrev pub pair_read : List Class → Memory → Object → ℕ → List (Sub × Slot) → Item → Sub → Option Slot → Read
+pair_read classes m o at pairs i k None = gives (got.Plain (value.Str [])) m
+pair_read classes m o at pairs i k (Some s) = read_of classes m o.number o.level at (λ n. Map (put sub_cmp k (alone n) pairs)) (element_content classes i (out-Slot s))
 
--- the first key behind one, or the first of all
-abbrev pub key_behind : Option Sub → List (Sub × Slot) → Option Sub
-key_behind None [] = None
-key_behind None (p ∷ ps) = Some p.0
-key_behind (Some k) [] = None
-key_behind (Some k) (p ∷ ps) = or_first (sub_cmp k p.0) p.0 (key_behind (Some k) ps)
+-- the array without the element of the key
+abbrev pub array_removed : Memory → Object → ℕ → List (Sub × Slot) → Sub → Memory
+array_removed m o at pairs k = slot_set m o.number at (Map (without_first (has_key k) pairs)) []
 
 abbrev pub key_or : Option Sub → Val
 key_or None = nothing
@@ -40,13 +41,13 @@ key_or (Some k) = sub_value k
 -- the array of such elements in the slot at the place of an object
 module _ (classes : List Class) (tries most : ℕ) (o : Object) (at : ℕ) (pairs : List (Sub × Slot)) (i : Item) where
   abbrev pub pair_placed : Sub → ℕ → Slot
-  pair_placed k n = Map (put sub_cmp k (To (record { 0 = n })) pairs)
+  pair_placed k n = Map (put sub_cmp k (alone n) pairs)
 
   abbrev pub get_by : Sub → ObjectCall Memory
-  get_by k s = reads classes tries most o at (pair_placed k) (array_read classes s.memory o at pairs i k) s
+  get_by k s = reads classes tries most o at (pair_placed k) (pair_read classes s.memory o at pairs i k (find sub_cmp k pairs)) s
 
   abbrev pub puts_by : Sub → Standing → ObjectCall Memory
-  puts_by k st s = answers (with_memory (set_standing o.number at st (λ t. Map (put sub_cmp k t pairs))) s) yes
+  puts_by k st s = answers (with_memory (stood o.number at (λ t. Map (put sub_cmp k t pairs)) st) s) yes
 
   -- a fault of the element comes before one of the key
   abbrev pub set_by : Val → Val → ObjectCall Memory
@@ -61,5 +62,5 @@ module _ (classes : List Class) (tries most : ℕ) (o : Object) (at : ℕ) (pair
   on_array GetAt args s = with_arg args (λ k. checks (subscript_of 0 k) get_by) s
   on_array SetAt args s = with_args args set_by s
   on_array RemoveAt args s = with_arg args (λ k. checks (subscript_of 0 k) (λ key. takes_by key (is_some (find sub_cmp key pairs)))) s
-  on_array Next args s = with_arg args (λ k. checks (after_of 0 k) (λ behind s. answers s (key_or (key_behind behind pairs)))) s
+  on_array Next args s = with_arg args (λ k. checks (after_of 0 k) (λ behind s. answers s (key_or (next_key behind pairs)))) s
   on_array _ args s = errs s error.MethodDoesNotExist

@@ -1,8 +1,7 @@
--- What stands in a slot once a value is set there, or that the value is refused: the functions that the rules of sets have.
+-- Whether a set takes a value, and what stands there then: the rules of sets as functions.
 use Rattle.std.specs.Prelude.{ℕ, Bool, true, false, cond, List, [], ◌∷◌, Option, None, Some}
 use Rattle.obj_kinds.specs.declared.name.ClassName.{ClassName}
 use Rattle.obj_kinds.specs.declared.value.Value.{Value}
-use Rattle.obj_kinds.specs.declared.value.Value.TheVariants as value
 use Rattle.obj_kinds.specs.declared.value.Value.TheOpen.{Value-F}
 use Rattle.obj_kinds.specs.declared.value.Value.TheViews.{out-Value}
 use Rattle.obj_kinds.specs.Texts.{same_text}
@@ -11,13 +10,10 @@ use Rattle.schema_kinds.specs.declared.kind.Item.{Item}
 use Rattle.schema_kinds.specs.declared.kind.Item.TheVariants as of
 use Rattle.os_kinds.specs.declared.val.Val.{Val}
 use Rattle.os_kinds.specs.declared.val.Val.TheVariants.{Data, Ref}
-use Rattle.oref_table.specs.declared.slot.Slot.TheVariants.{Plain, Target, To}
 use Rattle.oref_table.specs.declared.fill.Fill.{Fill}
 use Rattle.oref_table.specs.declared.fill.Fill.TheVariants as fill
 use Rattle.oref_table.specs.Memory.{Memory, edited, tighten}
-use Rattle.obj_shape.specs.Records.{slots_at}
-use Rattle.obj_props.specs.Copies.{copy_part, with_copies}
-use Rattle.obj_props.specs.Sets.{Standing, plainly, oref_text}
+use Rattle.prop_setting.specs.Elements.{Standing, standing}
 use Rattle.object_calls.specs.Extents.{is_at_or_below}
 use Rattle.object_members.specs.Seeing.{class_at}
 
@@ -30,20 +26,15 @@ abbrev pub held_for : Val → Memory → Memory
 held_for (Data v) m = m
 held_for (Ref number class) m = edited m number tighten
 
-abbrev pub text_stands : Memory → Value → Value-F Value → Option Standing
-text_stands m v (Value-F.Str text) = Some (plainly m (Plain v))
-text_stands m v (Value-F.List vs) = None
+-- ---- what an element takes
 
--- a value takes a text, and an OREF as a text
-abbrev pub value_stands : Memory → Fill → Option Standing
-value_stands m (fill.Plain v) = text_stands m v (out-Value v)
-value_stands m (fill.To h) = Some (record { slot = Plain (value.Str (oref_text m h.number)); memory = m; passed = []; back = h.number ∷ [] })
-value_stands m _ = None
+abbrev pub is_text : Value-F Value → Bool
+is_text (Value-F.Str text) = true
+is_text (Value-F.List vs) = false
 
--- the empty text takes away what a reference names, and a part
-abbrev pub empty_stands : Memory → Value-F Value → Option Standing
-empty_stands m (Value-F.Str []) = Some (plainly m (Target None))
-empty_stands m _ = None
+abbrev pub is_empty_text : Value-F Value → Bool
+is_empty_text (Value-F.Str []) = true
+is_empty_text _ = false
 
 -- an object of a class at or below the declared one may be named, and one of the serial class itself may be a part
 abbrev pub is_class_for : List Class → Item → Option ClassName → Bool
@@ -52,31 +43,30 @@ is_class_for classes (of.Ref c) (Some name) = is_at_or_below classes name c
 is_class_for classes (of.Serial c) (Some name) = same_text name.0 c.0
 is_class_for classes _ (Some name) = false
 
-abbrev pub reference_stands : List Class → Memory → ClassName → Fill → Option Standing
-reference_stands classes m c (fill.Plain v) = empty_stands m (out-Value v)
-reference_stands classes m c (fill.To h) =
-    cond (is_class_for classes (of.Ref c) (class_at m h.number)) (Some (record { slot = To (record { 0 = h.number }); memory = m; passed = h.number ∷ []; back = [] })) None
-reference_stands classes m c _ = None
+-- a value takes a text, and an OREF, as its text
+abbrev pub value_takes : Fill → Bool
+value_takes (fill.Plain v) = is_text (out-Value v)
+value_takes (fill.To h) = true
+value_takes _ = false
 
--- a copy of the part, with the level of its holder
-abbrev pub copied : List Class → Memory → ℕ → ClassName → ℕ → Bool → Option Standing
-copied classes m level c n false = None
-copied classes m level c n true =
-    let copies = copy_part 4 classes m level c (slots_at m n) m.last in
-    Some (record { slot = To (record { 0 = copies.copy }); memory = with_copies m copies; passed = []; back = n ∷ [] })
+-- a reference and a part take an object of a class for them, and the empty text
+abbrev pub object_takes : List Class → Memory → Item → Fill → Bool
+object_takes classes m i (fill.Plain v) = is_empty_text (out-Value v)
+object_takes classes m i (fill.To h) = is_class_for classes i (class_at m h.number)
+object_takes classes m i _ = false
 
-abbrev pub part_stands : List Class → Memory → ℕ → ClassName → Fill → Option Standing
-part_stands classes m level c (fill.Plain v) = empty_stands m (out-Value v)
-part_stands classes m level c (fill.To h) = copied classes m level c h.number (is_class_for classes (of.Serial c) (class_at m h.number))
-part_stands classes m level c _ = None
+abbrev pub takes : List Class → Memory → Item → Fill → Bool
+takes classes m of.Text w = value_takes w
+takes classes m of.Whole w = value_takes w
+takes classes m of.Truth w = value_takes w
+takes classes m (of.Ref c) w = object_takes classes m (of.Ref c) w
+takes classes m (of.Serial c) w = object_takes classes m (of.Serial c) w
+
+-- ---- what stands there then
 
 -- as an element, with the level of its holder
 abbrev pub element_stands : List Class → Memory → ℕ → Item → Fill → Option Standing
-element_stands classes m level of.Text w = value_stands m w
-element_stands classes m level of.Whole w = value_stands m w
-element_stands classes m level of.Truth w = value_stands m w
-element_stands classes m level (of.Ref c) w = reference_stands classes m c w
-element_stands classes m level (of.Serial c) w = part_stands classes m level c w
+element_stands classes m level i w = cond (takes classes m i w) (Some (standing classes m level i w)) None
 
 -- as an element of an object with this level
 abbrev pub stands : List Class → Memory → ℕ → Item → Val → Option Standing

@@ -17,8 +17,9 @@ use Rattle.oref_table.specs.declared.slot.Slot.TheOpen.{Slot-F}
 use Rattle.oref_table.specs.declared.slot.Slot.TheViews.{out-Slot}
 use Rattle.oref_table.specs.Memory.{Object, Memory, object_of, edited, loosed}
 use Rattle.oref_table.specs.Dropping.{dropped}
+use Rattle.oref_table.specs.Filling.{slot_from, passed}
 use Rattle.obj_props.specs.Properties.{prop_place}
-use Rattle.obj_props.specs.Sets.{Standing, changed_slot, set_standing, given_back, element_error}
+use Rattle.prop_setting.specs.Elements.{Standing, changed_slot, stood, given_back, error_of}
 use Rattle.store_calls.specs.Calls.{Give}
 use Rattle.host_meaning.specs.Objects.{ObjectCall}
 use Rattle.object_members.specs.Seeing.{members_in, is_member_number, with_member_oref, slot_changed, props_at}
@@ -56,13 +57,13 @@ module _ (classes : List Class) where
 
   -- the memory once it stands in the slot of a property of that kind
   abbrev pub prop_set : Object → ℕ → Kind → Standing → Memory
-  prop_set o at (kind.One class side) st = given_back (one_side_set st.memory o at side st.slot st.passed) st.back
-  prop_set o at kind st = set_standing o.number at st (λ s. s)
+  prop_set o at (kind.One class side) st = given_back (one_side_set st.memory o at side (slot_from st.filling) (passed st.filling)) st.back
+  prop_set o at kind st = stood o.number at (λ s. s) st
 
   -- ---- a set
 
   abbrev pub writes_standing : Object → ℕ → Kind → Item → Option Standing → ObjectCall Memory
-  writes_standing o at kind i None s = errs s (element_error i)
+  writes_standing o at kind i None s = errs s (error_of i)
   writes_standing o at kind i (Some st) s = Give (with_memory (prop_set o at kind st) s, answer.Done)
 
   abbrev pub writes_form : Object → ℕ → Kind → Option Form → Val → ObjectCall Memory

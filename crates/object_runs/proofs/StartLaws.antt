@@ -42,7 +42,7 @@ one_index false true true rest c x h more = refl
 one_index false true false rest c x h more = more h
 one_index false false r rest c x h more = more h
 
-data_is_own : (names : List (List ℕ)) (global : List ℕ) (cs : List Class) → is_some (extent_with names 68 global cs) ≡ true → list_any (is_global_of names global) cs ≡ true
+pub data_is_own : (names : List (List ℕ)) (global : List ℕ) (cs : List Class) → is_some (extent_with names 68 global cs) ≡ true → list_any (is_global_of names global) cs ≡ true
 data_is_own names global [] h = absurd (cc h)
 data_is_own names global (c ∷ cs) h =
     one_own (is_with global c.name.0 68) (is_with global c.name.0 73) (is_root names c) (list_any (is_global_of names global) cs) c.name (extent_with names 68 global cs) h (data_is_own names global cs)
@@ -52,13 +52,13 @@ index_is_own names global [] h = absurd (cc h)
 index_is_own names global (c ∷ cs) h =
     one_index (is_with global c.name.0 68) (is_with global c.name.0 73) (is_root names c) (list_any (is_global_of names global) cs) c.name (extent_with names 73 global cs) h (index_is_own names global cs)
 
-bare_unowned : (classes : List Class) (o p : Option ClassName) → or_key (option_and_then (key_at classes None) o) (option_and_then (entry_key classes []) p) ≡ None
+pub bare_unowned : (classes : List Class) (o p : Option ClassName) → or_key (option_and_then (key_at classes None) o) (option_and_then (entry_key classes []) p) ≡ None
 bare_unowned classes None None = refl
 bare_unowned classes None (Some e) = refl
 bare_unowned classes (Some e) None = refl
 bare_unowned classes (Some e) (Some f) = refl
 
-owned_own : (classes : List Class) (global : List ℕ) (f g : ClassName → Option Key) (key : Key)
+pub owned_own : (classes : List Class) (global : List ℕ) (f g : ClassName → Option Key) (key : Key)
     → or_key (option_and_then f (extent_with (class_names classes) 68 global classes)) (option_and_then g (extent_with (class_names classes) 73 global classes)) ≡ Some key
     → is_own_global classes global ≡ true
 owned_own classes global f g key h = by (extent_with (class_names classes) 68 global classes) (extent_with (class_names classes) 73 global classes) refl refl h

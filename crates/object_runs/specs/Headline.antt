@@ -12,7 +12,7 @@ use Rattle.store_core.specs.Machine.{levels_at}
 use Rattle.store_core.specs.Cleared.{cleared}
 use Rattle.store_core.specs.Guard.{names}
 use Rattle.store_core.specs.Live.{is_end}
-use Rattle.store_calls.specs.Calls.{Told, Tag, Fails, Opens, Inside, step, told}
+use Rattle.store_calls.specs.Calls.{Told, Tag, Plain, Fails, Opens, Inside, step, told}
 use Rattle.object_runs.specs.declared.mark.Mark.{Mark}
 use Rattle.object_runs.specs.Marks.{is_raw, is_low}
 use Rattle.object_runs.specs.ObjectMachine.{Desk, Within, desk_at, view}
@@ -69,9 +69,13 @@ KeepsWorld Inside w v = v ≡ w
 KeepsWorld Fails w v = v ≡ w
 KeepsWorld _ w v = Unit {0}
 
+-- what an entry is to the objects: a process that ends asks nothing of its call any more
+abbrev pub tag_of : Meaning → Entry → Tag
+tag_of meaning e = cond (is_end e.op) Plain (tag_by (step (meaning e.pid.0)))
+
 abbrev pub FailuresChangeNothing : Meaning → Both → Entry → Type 0
 FailuresChangeNothing meaning b e =
-    let tag = tag_by (step (meaning e.pid.0)) in
+    let tag = tag_of meaning e in
     let next = moved meaning b e in
     IsUndone (desk_at b.objects e.pid.0).within tag (desk_at next.objects e.pid.0) × KeepsWorld tag b.objects.world next.objects.world
 

@@ -1,5 +1,5 @@
 -- What every entry of a run keeps of the two machines, so that the headline holds.
-use Rattle.std.specs.Prelude.{◌≡◌, ◌≢◌, ◌⊎◌, ℕ, ◌≤◌, Bool, true, false, cond, ◌||◌, List, [], ◌∷◌, ◌++◌, length, Option, Some, None, unwrap_or, is_some}
+use Rattle.std.specs.Prelude.{◌≡◌, ◌≢◌, ◌⊎◌, ℕ, ◌≤◌, Bool, true, false, cond, ◌||◌, ◌&&◌, List, [], ◌∷◌, ◌++◌, length, Option, Some, None, unwrap_or, is_some}
 use Rattle.std.specs.List.{list_any}
 use Rattle.std.specs.Ordering.{eq_by_cmp}
 use Rattle.std.specs.FinMap.{get}
@@ -20,10 +20,11 @@ use Rattle.schema_kinds.specs.declared.key.Key.{Key}
 use Rattle.schema_kinds.specs.declared.record.Record.{Record}
 use Rattle.schema_kinds.specs.declared.record.Part.{Part}
 use Rattle.schema_kinds.specs.declared.record.Part.TheVariants.{Put, Del}
-use Rattle.schema_kinds.specs.Classes.{class_names}
+use Rattle.schema_kinds.specs.Classes.{class_names, extent_of}
 use Rattle.schema_kinds.specs.Worlds.{World, Change}
 use Rattle.record_layout.specs.Rows.{data_node}
-use Rattle.storage_map.specs.Worlds.{extent_with, owner, stands_at}
+use Rattle.storage_map.specs.Markers.{is_extent}
+use Rattle.storage_map.specs.Worlds.{extent_with, owner, stands_at, is_side_named}
 use Rattle.lock_table.specs.Holds.{Holds, hold, kept}
 use Rattle.tran_log.specs.Levels.{Levels}
 use Rattle.store_core.specs.Machine.{State, levels_at}
@@ -49,17 +50,23 @@ without_last [] = []
 without_last (s ∷ []) = []
 without_last (s ∷ t ∷ ss) = s ∷ without_last (t ∷ ss)
 
--- a class of the schema has a unique index of that name
-abbrev pub is_unique_name : List Class → List ℕ → Bool
-is_unique_name classes name = list_any (λ c. list_any (λ i. cond i.unique (same_text i.name name) false) c.indexes) classes
+-- a class of the extent has a unique index of that name
+abbrev pub is_unique_name : List Class → ClassName → List ℕ → Bool
+is_unique_name classes extent name =
+    list_any (λ c. is_extent extent (extent_of classes c.name) && list_any (λ i. i.unique && same_text i.name name) c.indexes) classes
 
--- entries of a unique index are guarded by the node of their key, those of one sides by themselves
-abbrev pub entry_guarding : List Class → Node → List Sub → Guarding
-entry_guarding classes n (Str name ∷ ss) = cond (is_unique_name classes name) (GuardedBy (record { global = n.global; subs = without_last n.subs })) (GuardedBy n)
-entry_guarding classes n ss = Unguarded
+-- a class of the extent has a one side of that name
+abbrev pub is_side_name : List Class → ClassName → List ℕ → Bool
+is_side_name classes extent name = list_any (λ c. is_extent extent (extent_of classes c.name) && list_any (λ p. is_side_named name p p.kind) c.props) classes
+
+-- entries of a unique index are guarded by the node of their key, those of one sides by themselves, all others by the row alone
+abbrev pub entry_guarding : List Class → ClassName → Node → List Sub → Guarding
+entry_guarding classes extent n (Str name ∷ ss) =
+    cond (is_unique_name classes extent name) (GuardedBy (record { global = n.global; subs = without_last n.subs })) (cond (is_side_name classes extent name) (GuardedBy n) Unguarded)
+entry_guarding classes extent n ss = Unguarded
 
 abbrev pub guarding_in : List Class → Node → Option ClassName → Option Key → Guarding
-guarding_in classes n (Some extent) (Some key) = entry_guarding classes n n.subs
+guarding_in classes n (Some extent) (Some key) = entry_guarding classes extent n n.subs
 guarding_in classes n _ _ = Unguarded
 
 abbrev pub key_guard : List Class → Guard

@@ -1,4 +1,5 @@
 pub mod Sampled
+pub mod Meters
 pub mod Balances
 pub mod ExprBalances
 pub mod ScriptBalances

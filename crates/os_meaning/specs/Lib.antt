@@ -8,3 +8,4 @@ pub mod Meaning
 pub mod Shown
 pub mod Samples
 pub mod Accounts
+pub mod Units

@@ -30,7 +30,7 @@ and_second true b h = h
 and_second false b h = cc
 
 -- the extent of its data global
-extent_found : (names : List (List ℕ)) (extent : ClassName) (cs : List Class) → list_any (is_root_named names extent) cs ≡ true → extent_with names 68 (extent.0 ++ 68 ∷ []) cs ≡ Some extent
+pub extent_found : (names : List (List ℕ)) (extent : ClassName) (cs : List Class) → list_any (is_root_named names extent) cs ≡ true → extent_with names 68 (extent.0 ++ 68 ∷ []) cs ≡ Some extent
 extent_found names extent [] h = cc
 extent_found names extent (c ∷ cs) h = by (is_with (extent.0 ++ 68 ∷ []) c.name.0 68 && is_root names c) refl (is_root_named names extent c) refl h (extent_found names extent cs)
   where

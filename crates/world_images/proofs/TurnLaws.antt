@@ -69,11 +69,11 @@ none_left n p (e ∷ es) h = by (eq_by_cmp node_cmp n e.0) refl h (p e) (none_le
     by false t k true more = ap (λ b. cond b (Some e.1) (find node_cmp n (filter p es))) t ∙ more k
     by false t k false more = more k
 
-none_set : (old new : Globals) (n : Node) → get new n ≡ None → find node_cmp n (differing (listed old) (listed new)) ≡ None
+pub none_set : (old new : Globals) (n : Node) → get new n ≡ None → find node_cmp n (differing (listed old) (listed new)) ≡ None
 unfolding differing
 none_set old new n h = none_left n (λ e. not (same_there (find node_cmp e.0 (listed old)) e.1)) (listed new) (sym (get-entries new n) ∙ h)
 
-none_killed : (old new : Globals) (n : Node) → ((m : Node) (v : Value) → get old m ≡ Some v → covers m n ≡ false) → list_any (λ k. covers k n) (stale (listed old) (listed new)) ≡ false
+pub none_killed : (old new : Globals) (n : Node) → ((m : Node) (v : Value) → get old m ≡ Some v → covers m n ≡ false) → list_any (λ k. covers k n) (stale (listed old) (listed new)) ≡ false
 unfolding stale
 none_killed old new n apart =
     none_kept n (λ m. not (is_some (find node_cmp m (listed new)))) (listed old) (listed old) (λ m was gone. let v = some_of (find node_cmp m (listed old)) was in apart m v.0 (get-entries old m ∙ v.1)) (λ m h. h)
@@ -131,7 +131,7 @@ module _ (R S E F g : Globals) (n : Node) where
 
 -- WHAT A NODE COVERS
 
-front_is : (front way : List Sub) → is_front front way ≡ true → (rest : List Sub) × (way ≡ front ++ rest)
+pub front_is : (front way : List Sub) → is_front front way ≡ true → (rest : List Sub) × (way ≡ front ++ rest)
 front_is [] way h = (way, refl)
 front_is (x ∷ front) [] h = cc
 front_is (x ∷ front) (y ∷ way) h =
@@ -139,30 +139,30 @@ front_is (x ∷ front) (y ∷ way) h =
     let more = front_is front way (and_second (eq_by_cmp sub_cmp x y) (is_front front way) h) in
     (more.0, λ i. head i ∷ more.1 i)
 
-covers_is : (m n : Node) → covers m n ≡ true → (rest : List Sub) × (n ≡ below m rest)
+pub covers_is : (m n : Node) → covers m n ≡ true → (rest : List Sub) × (n ≡ below m rest)
 unfolding covers
 covers_is m n h =
     let g : n.global ≡ m.global = sym (one_key (λ x y t. text_tie-is x y t) m.global n.global (and_first (eq_by_cmp text_cmp m.global n.global) (is_front m.subs n.subs) h)) in
     let s = front_is m.subs n.subs (and_second (eq_by_cmp text_cmp m.global n.global) (is_front m.subs n.subs) h) in
     (s.0, λ i. record { global = g i; subs = s.1 i })
 
-row_global : (key : Key) (way : List Sub) → (below (data_node key) way).global ≡ key.extent.0 ++ 68 ∷ []
+pub row_global : (key : Key) (way : List Sub) → (below (data_node key) way).global ≡ key.extent.0 ++ 68 ∷ []
 unfolding data_node
 row_global key way = refl
 
-entry_global : (key : Key) (name : List ℕ) (values : List Sub) → (entry_node key name values).global ≡ key.extent.0 ++ 73 ∷ []
+pub entry_global : (key : Key) (name : List ℕ) (values : List Sub) → (entry_node key name values).global ≡ key.extent.0 ++ 73 ∷ []
 unfolding entry_node key_node
 entry_global key name values = refl
 
-entry_subs : (key : Key) (name : List ℕ) (values : List Sub) → (entry_node key name values).subs ≡ Str name ∷ values ++ sub_of (id_text key.id) ∷ []
+pub entry_subs : (key : Key) (name : List ℕ) (values : List Sub) → (entry_node key name values).subs ≡ Str name ∷ values ++ sub_of (id_text key.id) ∷ []
 unfolding entry_node key_node
 entry_subs key name values = refl
 
-one_key_of : (a b : Key) → Some a ≡ Some b → a ≡ b
+pub one_key_of : (a b : Key) → Some a ≡ Some b → a ≡ b
 one_key_of a b e = cc
 
 -- a node of another letter
-two_letters : (extent : List ℕ) → extent ++ 68 ∷ [] ≡ extent ++ 73 ∷ [] → ⊥
+pub two_letters : (extent : List ℕ) → extent ++ 68 ∷ [] ≡ extent ++ 73 ∷ [] → ⊥
 two_letters extent e = let letter : 68 ≡ 73 = last_letter extent extent 68 73 e in omega (arith, letter)
 
 needed : (b : Bool) (o : Option Key) (k : Key) → cond b o None ≡ Some k → b ≡ true
@@ -173,7 +173,7 @@ longer : (xs : List Sub) (id : Sub) (rest : List Sub) → length (xs ++ id ∷ r
 longer [] id rest = omega arith
 longer (x ∷ xs) id rest = let h = longer xs id rest in omega (arith, h)
 
-key_needs : (classes : List Class) (name : List ℕ) (id : Sub) (values rest : List Sub) (extent : ClassName) (k : Key) → entry_key classes (Str name ∷ values ++ id ∷ rest) extent ≡ Some k → extent_has classes extent name (length values + length rest) ≡ true
+pub key_needs : (classes : List Class) (name : List ℕ) (id : Sub) (values rest : List Sub) (extent : ClassName) (k : Key) → entry_key classes (Str name ∷ values ++ id ∷ rest) extent ≡ Some k → extent_has classes extent name (length values + length rest) ≡ true
 key_needs classes name id [] rest extent k h =
     ap (extent_has classes extent name) (let e : 0 + length rest ≡ length rest = omega arith in e) ∙ needed (extent_has classes extent name (length rest)) (key_at classes (last_sub (id ∷ rest)) extent) k h
 key_needs classes name id (v ∷ vs) rest extent k h =
@@ -199,7 +199,7 @@ module _ (classes : List Class) (key : Key) (class : ClassName) (real : IsKeyOf 
 
   -- ROWS
 
-  row_there : (o : Option Record) (m : Node) (v : Value) → get (rows_if classes key o) m ≡ Some v → (way : List Sub) × (m ≡ below (data_node key) way)
+  pub row_there : (o : Option Record) (m : Node) (v : Value) → get (rows_if classes key o) m ≡ Some v → (way : List Sub) × (m ≡ below (data_node key) way)
   row_there None m v h = let no : None ≡ Some v = sym (get-empty node_cmp m) ∙ h in cc
   row_there (Some r) m v h = row_found classes key r m v h
 
@@ -210,7 +210,7 @@ module _ (classes : List Class) (key : Key) (class : ClassName) (real : IsKeyOf 
 
   -- ENTRIES
 
-  entry_of : (o : Option Record) (m : Node) (v : Value) → IsOfClass class o → get (entries_if classes key o) m ≡ Some v → (c : Class) × (class_of classes class ≡ Some c) × IsEntry key c m
+  pub entry_of : (o : Option Record) (m : Node) (v : Value) → IsOfClass class o → get (entries_if classes key o) m ≡ Some v → (c : Class) × (class_of classes class ≡ Some c) × IsEntry key c m
   entry_of None m v a h = let no : None ≡ Some v = sym (get-empty node_cmp m) ∙ h in cc
   entry_of (Some r) m v a h = let p = entry_there classes key r m v h in (p.0, ap (class_of classes) (sym a) ∙ p.1, p.2)
 
@@ -273,14 +273,14 @@ module _ (classes : List Class) (key : Key) (class : ClassName) (real : IsKeyOf 
     not_mine : owner classes n ≡ Some key → ⊥
     not_mine e = apart (one_key_of k key (sym owned ∙ e))
 
-    their_row : (o : Option Record) → get (rows_if classes key o) n ≡ None
+    pub their_row : (o : Option Record) → get (rows_if classes key o) n ≡ None
     their_row o = by (get (rows_if classes key o) n) refl
       where
         by : (w : Option Value) → get (rows_if classes key o) n ≡ w → w ≡ None
         by None e = refl
         by (Some v) e = let p = row_there o n v e in absurd (not_mine (ap (owner classes) p.1 ∙ rows_belong classes key p.0 real))
 
-    their_row_apart : (o : Option Record) (m : Node) (v : Value) → get (rows_if classes key o) m ≡ Some v → covers m n ≡ false
+    pub their_row_apart : (o : Option Record) (m : Node) (v : Value) → get (rows_if classes key o) m ≡ Some v → covers m n ≡ false
     their_row_apart o m v h = by (covers m n) refl
       where
         by : (b : Bool) → covers m n ≡ b → b ≡ false
@@ -291,10 +291,10 @@ module _ (classes : List Class) (key : Key) (class : ClassName) (real : IsKeyOf 
             let way : n ≡ below (data_node key) (p.0 ++ q.0) = q.1 ∙ ap (λ (m' : Node). below m' q.0) p.1 ∙ (λ i. record { global = (data_node key).global; subs = append_assoc (data_node key).subs p.0 q.0 i }) in
             absurd (not_mine (ap (owner classes) way ∙ rows_belong classes key (p.0 ++ q.0) real))
 
-    entry_owned : (c : Class) → class_of classes class ≡ Some c → (m : Node) → IsEntry key c m → owner classes m ≡ Some key
+    pub entry_owned : (c : Class) → class_of classes class ≡ Some c → (m : Node) → IsEntry key c m → owner classes m ≡ Some key
     entry_owned c is m p = ap (owner classes) p.node ∙ entry_owner classes key p.name p.values real (extent_entry classes key.extent class c p.name (length p.values) is in' p.has)
 
-    their_entry : (o : Option Record) → IsOfClass class o → get (entries_if classes key o) n ≡ None
+    pub their_entry : (o : Option Record) → IsOfClass class o → get (entries_if classes key o) n ≡ None
     their_entry o a = by (get (entries_if classes key o) n) refl
       where
         by : (w : Option Value) → get (entries_if classes key o) n ≡ w → w ≡ None
@@ -302,7 +302,7 @@ module _ (classes : List Class) (key : Key) (class : ClassName) (real : IsKeyOf 
         by (Some v) e = let p = entry_of o n v a e in absurd (not_mine (entry_owned p.0 p.1 n p.2))
 
     -- below an entry stands nothing of another key
-    entry_end : (c : Class) → class_of classes class ≡ Some c → (m : Node) → IsEntry key c m → (rest : List Sub) → n ≡ below m rest → ⊥
+    pub entry_end : (c : Class) → class_of classes class ≡ Some c → (m : Node) → IsEntry key c m → (rest : List Sub) → n ≡ below m rest → ⊥
     unfolding owner
     entry_end c is m p rest at = by rest (even p.name (length p.values) (length p.values + length rest) (extent_entry classes key.extent class c p.name (length p.values) is in' p.has) used) at
       where
@@ -325,7 +325,7 @@ module _ (classes : List Class) (key : Key) (class : ClassName) (real : IsKeyOf 
         by [] e here = not_mine (ap (owner classes) (here ∙ (λ i. record { global = m.global; subs = append-nil m.subs i })) ∙ entry_owned c is m p)
         by (s ∷ ss) e here = omega (arith, e)
 
-    their_entry_apart : (o : Option Record) → IsOfClass class o → (m : Node) (v : Value) → get (entries_if classes key o) m ≡ Some v → covers m n ≡ false
+    pub their_entry_apart : (o : Option Record) → IsOfClass class o → (m : Node) (v : Value) → get (entries_if classes key o) m ≡ Some v → covers m n ≡ false
     their_entry_apart o a m v h = by (covers m n) refl
       where
         by : (b : Bool) → covers m n ≡ b → b ≡ false

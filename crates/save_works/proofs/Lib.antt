@@ -1,0 +1,3 @@
+mod MovedLaws
+mod WorkLaws
+pub mod StepLaws

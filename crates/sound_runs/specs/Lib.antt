@@ -1,0 +1,9 @@
+pub mod Closing
+pub mod Backed
+pub mod Pairs
+pub mod Laws
+pub mod Swap
+pub mod Reads
+pub mod Taken
+pub mod Stays
+pub mod Ids
