@@ -1,0 +1,11 @@
+pub mod Rules
+pub mod Seen
+pub mod Looks
+pub mod Lesser
+pub mod Alike
+pub mod Readings
+pub mod Apart
+pub mod Writes
+pub mod Owned
+pub mod Gone
+pub mod Sampled

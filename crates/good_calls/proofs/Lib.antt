@@ -1,0 +1,4 @@
+pub mod Idle
+pub mod Loads
+pub mod Walks
+pub mod Rested

@@ -1,0 +1,4 @@
+pub mod Locks
+pub mod NoMembers
+pub mod Deletes
+pub mod Good

@@ -1,0 +1,9 @@
+pub mod Changes
+pub mod Held
+pub mod Granted
+pub mod Guards
+pub mod Stacks
+pub mod Turns
+pub mod Whole
+pub mod Step
+pub mod Weave

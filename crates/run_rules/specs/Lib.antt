@@ -1,0 +1,4 @@
+pub mod Steps
+pub mod Structure
+pub mod Good
+pub mod Laws
