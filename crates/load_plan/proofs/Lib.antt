@@ -1,3 +1,4 @@
 pub mod LoadLaws
 pub mod ModeLaws
 pub mod RaiseLaws
+pub mod OwnLaws

@@ -3,6 +3,7 @@
 
 mod asking;
 mod call;
+mod law;
 mod mode;
 mod phase;
 mod plan;
@@ -10,6 +11,7 @@ mod raise;
 mod taking;
 
 pub use call::{LoadCall, LoadStep, Loaded};
+pub use law::loads_ask_for_their_own_key_alone;
 pub use phase::{Phase, Reading};
 pub use plan::LoadPlan;
 pub use raise::{RaiseCall, RaisePhase, RaisePlan, RaiseStep, Raised};

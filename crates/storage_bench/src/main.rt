@@ -1,13 +1,15 @@
-//! Times of the calls of storage on generated objects. Without words it reads back one small object of each shape; each
-//! word is a number of properties (200 at most) and of elements of one array, for which it prints the nanoseconds that
-//! one call of `rows`, `record_from` and `changes` takes.
+//! Times of the calls of storage on generated objects. Without words it reads back and loads one small object of each
+//! shape; each word is a number of properties (200 at most) and of elements of one array, for which it prints the
+//! nanoseconds that one call of `rows`, `record_from` and `changes`, and one load from a store, takes.
 #![tactic(auto)]
 
 mod calls;
+mod loads;
 mod shapes;
 mod work;
 
 use crate::calls::{changes_time, read_time, rows_time};
+use crate::loads::{is_loaded, load_time, store_of};
 use crate::shapes::Shape;
 use crate::work::{Work, make_work};
 use obj_kinds::NoMemory;
@@ -19,15 +21,21 @@ use storage_map::rows;
 const SHAPES: [(Shape, &str); 2] = [(Shape::Props, "properties"), (Shape::Keys, "keys")];
 
 /// Writes a small object and reads it back, and says whether it is the same.
-fn is_read(rt: &HostRuntime, shape: Shape) -> Result<bool, NoMemory> {
-    let Some(work) = make_work(rt.alloc(), shape, 10)? else {
-        return Ok(false);
-    };
+fn is_read(rt: &HostRuntime, work: &Work) -> Result<bool, NoMemory> {
     let nodes = rows(rt.alloc(), &work.schema, &work.key, &work.old)?;
     match record_from(rt.alloc(), &work.schema, &work.key, &nodes) {
         Ok(record) => Ok(record.is_same(&work.old)),
         Err(_) => Ok(false),
     }
+}
+
+/// Whether a small object of the shape is read back, and loaded from a store.
+fn is_good(rt: &HostRuntime, shape: Shape) -> Result<bool, NoMemory> {
+    let Some(work) = make_work(rt.alloc(), shape, 10)? else {
+        return Ok(false);
+    };
+    let mut store = store_of(rt.alloc(), &work)?;
+    Ok(is_read(rt, &work)? && is_loaded(rt.alloc(), &work, &mut store)?)
 }
 
 // How often a call on an object of so many parts is made.
@@ -58,7 +66,11 @@ fn print_work(rt: &HostRuntime, work: &Work, times: u32) -> io::Result<()> {
             times,
         )?;
     }
-    print_one(rt, "changes", changes_time(rt, work, times)?, times)
+    print_one(rt, "changes", changes_time(rt, work, times)?, times)?;
+    match store_of(rt.alloc(), work) {
+        Ok(mut store) => print_one(rt, "load", load_time(rt, work, &mut store, times)?, times),
+        Err(_) => print_one(rt, "load", None, times),
+    }
 }
 
 fn print_times(rt: &HostRuntime, parts: u32) -> io::Result<()> {
@@ -76,9 +88,9 @@ fn print_times(rt: &HostRuntime, parts: u32) -> io::Result<()> {
 
 fn print_small(rt: &HostRuntime) -> io::Result<()> {
     for (shape, name) in SHAPES {
-        match is_read(rt, shape) {
-            Ok(true) => println!(rt; "10 {name}: read")?,
-            _ => println!(rt; "10 {name}: not read")?,
+        match is_good(rt, shape) {
+            Ok(true) => println!(rt; "10 {name}: read and loaded")?,
+            _ => println!(rt; "10 {name}: not read or not loaded")?,
         }
     }
     Ok(())
