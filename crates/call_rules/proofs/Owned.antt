@@ -1,6 +1,7 @@
 -- Of which index or one side an entry is, and what guards it.
-use Rattle.std.proofs.Common.{◌≡◌, ◌⊎◌, inl, inr, ⊎_elim, ℕ, zero, suc, Bool, true, false, cond, ◌&&◌, ◌||◌, List, [], ◌∷◌, ◌++◌, map, filter, slice_get, Option, Some, None, is_some, option_map, refl, sym, ap, subst, ◌∙◌}
+use Rattle.std.proofs.Common.{◌≡◌, ◌⊎◌, inl, inr, ⊎_elim, ℕ, zero, suc, Bool, true, false, cond, ◌&&◌, ◌||◌, not, List, [], ◌∷◌, ◌++◌, map, filter, slice_get, Option, Some, None, is_some, option_map, refl, sym, ap, subst, ◌∙◌}
 use Rattle.std.specs.List.{list_any, filter_map, cons_option}
+use Rattle.std.specs.Fmt.{digits}
 use Rattle.std.specs.Ordering.{eq_by_cmp}
 use Rattle.std.specs.FinMap.{find, get, get-from_entries}
 use Rattle.obj_kinds.specs.declared.name.ClassName.{ClassName}
@@ -11,11 +12,12 @@ use Rattle.obj_kinds.specs.declared.value.Value.{Value}
 use Rattle.obj_kinds.specs.declared.value.Value.TheVariants as value
 use Rattle.obj_kinds.specs.declared.op.Pid.{Pid}
 use Rattle.obj_kinds.specs.Ids.{id_text}
-use Rattle.obj_kinds.specs.Subscript.{sub_of}
+use Rattle.obj_kinds.specs.Subscript.{sub_of, whole_of, is_number, number_in}
+use Rattle.obj_kinds.specs.IdReading.{id_in, part_in}
 use Rattle.obj_kinds.specs.Order.{node_cmp}
 use Rattle.obj_kinds.specs.Texts.{same_text}
 use Rattle.obj_kinds.proofs.OrderLemmas.{node_total, node_exact}
-use Rattle.obj_kinds.proofs.TextLaws.{is-same_text}
+use Rattle.obj_kinds.proofs.TextLaws.{is-same_text, same_text-is}
 use Rattle.global_tree.proofs.MapLaws.{one_key}
 use Rattle.schema_kinds.specs.declared.class.Class.{Class}
 use Rattle.schema_kinds.specs.declared.class.Index.{Index}
@@ -29,15 +31,15 @@ use Rattle.schema_kinds.specs.declared.record.Field.TheViews.{out-Field}
 use Rattle.schema_kinds.specs.declared.record.Record.{Record}
 use Rattle.schema_kinds.specs.Classes.{class_names, class_of, extent_of}
 use Rattle.storage_map.specs.Markers.{is_extent}
-use Rattle.storage_map.specs.Entries.{pair_up, with_fields, indexed, index_key, key_node, entry_node, entry_if, side_entry, index_entries, side_entries, indexes_of, props_in, entry_list, valued_empty, entries}
+use Rattle.storage_map.specs.Entries.{pair_up, with_fields, indexed, value_of, or_blank, index_key, key_node, entry_node, entry_if, side_entry, index_entries, side_entries, indexes_of, props_in, entry_list, valued_empty, entries}
 use Rattle.storage_map.specs.Worlds.{extent_with, owner, IsKeyOf}
 use Rattle.world_images.proofs.EntryLaws.{index_extent, class_listed, IsListed, entries_belong}
 use Rattle.world_images.proofs.TurnLaws.{entry_global, entry_subs}
 use Rattle.lock_table.specs.Holds.{Holds}
 use Rattle.store_core.specs.Guard.{Guarding, Unguarded, GuardedBy, HoldsGuard, HoldsToEnd}
 use Rattle.object_runs.specs.Causes.{Has}
-use Rattle.object_runs.specs.Invariant.{is_unique_name, is_side_name, without_last, entry_guarding, guarding_in, key_guard}
-use Rattle.call_rules.specs.Schemas.{IsStorableSchema}
+use Rattle.object_runs.specs.Invariant.{is_unique_name, is_side_name, names_target, without_last, entry_guarding, guarding_in, key_guard}
+use Rattle.call_rules.specs.Schemas.{IsOnSide, IsStorableSchema}
 
 -- ---- lists
 
@@ -128,21 +130,46 @@ last_off [] s = refl
 last_off (x ∷ []) s = refl
 last_off (x ∷ y ∷ xs) s = ap (λ ys. x ∷ ys) (last_off (y ∷ xs) s)
 
-abbrev guard_by : List Class → ClassName → List ℕ → Node → Node → Guarding
-guard_by classes extent name x m = cond (is_unique_name classes extent name) (GuardedBy x) (cond (is_side_name classes extent name) (GuardedBy m) Unguarded)
+abbrev guard_by : List Class → ClassName → List ℕ → Node → List Sub → Node → Guarding
+guard_by classes extent name x ss m = cond (is_unique_name classes extent name) (GuardedBy x) (cond (is_side_name classes extent name && names_target ss) (GuardedBy m) Unguarded)
+
+-- the value of a property is that of one of its name
+pub value_has : (name : List ℕ) (es : List (Prop × Field)) (s : Sub) → value_of name es ≡ Some s → (e : Prop × Field) × Has e es × (same_text name e.0.name ≡ true) × (indexed e.0.kind (out-Field e.1) ≡ Some s)
+value_has name [] s h = absurd (cc h)
+value_has name (e ∷ es) s h = by (same_text name e.0.name) refl h (value_has name es s)
+  where
+    by : (b : Bool) → same_text name e.0.name ≡ b → cond b (indexed e.0.kind (out-Field e.1)) (value_of name es) ≡ Some s
+        → (value_of name es ≡ Some s → (d : Prop × Field) × Has d es × (same_text name d.0.name ≡ true) × (indexed d.0.kind (out-Field d.1) ≡ Some s))
+        → (d : Prop × Field) × Has d (e ∷ es) × (same_text name d.0.name ≡ true) × (indexed d.0.kind (out-Field d.1) ≡ Some s)
+    by true same g more = (e, inl refl, same, g)
+    by false same g more = let r = more g in (r.0, inr r.1, r.2, r.3)
+
+-- the key of an index on one property that isn't unique
+pub alone_key : (i : Index) (name : List ℕ) (es : List (Prop × Field)) → i.unique ≡ false → i.props ≡ name ∷ [] → index_key i es ≡ Some (or_blank (value_of name es) ∷ [])
+unfolding index_key
+alone_key i name es plain alone =
+    ap (λ u. cond (u && list_any (λ v. not (is_some v)) (map (λ n. value_of n es) i.props)) None (Some (map or_blank (map (λ n. value_of n es) i.props)))) plain
+    ∙ ap (λ names. Some (map or_blank (map (λ n. value_of n es) names))) alone
+
+-- a blank is no id
+pub blank_apart : (ss : List Sub) → names_target (or_blank None ∷ ss) ≡ false
+unfolding digits id_in part_in whole_of is_number number_in
+blank_apart ss = refl
 
 module _ (classes : List Class) (key : Key) (real : IsKeyOf classes key) where
   key_off : (name : List ℕ) (subs : List Sub) → record { global = (entry_node key name subs).global; subs = without_last (entry_node key name subs).subs } ≡ key_node key name subs
   unfolding entry_node key_node
   key_off name subs = λ i. record { global = (key_node key name subs).global; subs = last_off (Str name ∷ subs) (sub_of (id_text key.id)) i }
 
-  key_off_key : (name : List ℕ) (subs : List Sub) → entry_guarding classes key.extent (entry_node key name subs) (entry_node key name subs).subs ≡ guard_by classes key.extent name (key_node key name subs) (entry_node key name subs)
+  key_off_key : (name : List ℕ) (subs : List Sub) → entry_guarding classes key.extent (entry_node key name subs) (entry_node key name subs).subs
+      ≡ guard_by classes key.extent name (key_node key name subs) (subs ++ sub_of (id_text key.id) ∷ []) (entry_node key name subs)
   key_off_key name subs =
       ap (entry_guarding classes key.extent (entry_node key name subs)) (entry_subs key name subs)
-      ∙ ap (λ x. guard_by classes key.extent name x (entry_node key name subs)) (key_off name subs)
+      ∙ ap (λ x. guard_by classes key.extent name x (subs ++ sub_of (id_text key.id) ∷ []) (entry_node key name subs)) (key_off name subs)
 
   pub entry_guard : (name : List ℕ) (subs : List Sub) → owner classes (entry_node key name subs) ≡ Some key
-      → key_guard classes (entry_node key name subs) ≡ cond (is_unique_name classes key.extent name) (GuardedBy (key_node key name subs)) (cond (is_side_name classes key.extent name) (GuardedBy (entry_node key name subs)) Unguarded)
+      → key_guard classes (entry_node key name subs) ≡ cond (is_unique_name classes key.extent name) (GuardedBy (key_node key name subs))
+      (cond (is_side_name classes key.extent name && names_target (subs ++ sub_of (id_text key.id) ∷ [])) (GuardedBy (entry_node key name subs)) Unguarded)
   entry_guard name subs own =
       ap (λ o. guarding_in classes (entry_node key name subs) o (owner classes (entry_node key name subs))) (ap (λ g. extent_with (class_names classes) 73 g classes) (entry_global key name subs) ∙ index_extent (class_names classes) key.extent classes real.extent)
       ∙ ap (guarding_in classes (entry_node key name subs) (Some key.extent)) own
@@ -195,16 +222,57 @@ module _ (classes : List Class) (key : Key) (real : IsKeyOf classes key) where
         subst (λ n. HoldsGuard hs p (key_guard classes n)) (sym at)
         (subst (HoldsGuard hs p) (sym (entry_guard i.name subs (ap (owner classes) (sym at) ∙ own))) (by i.unique refl))
       where
-        by : (u : Bool) → i.unique ≡ u → HoldsGuard hs p (cond (is_unique_name classes key.extent i.name) (GuardedBy (key_node key i.name subs)) (cond (is_side_name classes key.extent i.name) (GuardedBy (entry_node key i.name subs)) Unguarded))
-        by true e = subst (λ c. HoldsGuard hs p (cond c (GuardedBy (key_node key i.name subs)) (cond (is_side_name classes key.extent i.name) (GuardedBy (entry_node key i.name subs)) Unguarded))) (sym (unique_named i has e)) (unique i has e subs is at)
-        by false e = let n = schema.plain r.class key.extent i in' has e in
-            subst (λ c. HoldsGuard hs p (cond c (GuardedBy (key_node key i.name subs)) (cond (is_side_name classes key.extent i.name) (GuardedBy (entry_node key i.name subs)) Unguarded))) (sym n.0)
-            (subst (λ c. HoldsGuard hs p (cond c (GuardedBy (entry_node key i.name subs)) Unguarded)) (sym n.1) tt)
+        tail : List Sub
+        tail = subs ++ sub_of (id_text key.id) ∷ []
+
+        e_node : Node
+        e_node = entry_node key i.name subs
+
+        free : (c d : Bool) → c ≡ false → HoldsGuard hs p (cond (c && d) (GuardedBy e_node) Unguarded)
+        free true d e = absurd (cc e)
+        free false d e = tt
+
+        unnamed : (c d : Bool) → d ≡ false → HoldsGuard hs p (cond (c && d) (GuardedBy e_node) Unguarded)
+        unnamed true d e = subst (λ x. HoldsGuard hs p (cond x (GuardedBy e_node) Unguarded)) (sym e) tt
+        unnamed false d e = tt
+
+        holding : (b : Bool) → HoldsToEnd hs p m → HoldsGuard hs p (cond b (GuardedBy e_node) Unguarded)
+        holding true h = subst (HoldsToEnd hs p) at h
+        holding false h = tt
+
+        on_side : i.unique ≡ false → IsOnSide classes r.class i → HoldsGuard hs p (cond (is_side_name classes key.extent i.name && names_target tail) (GuardedBy e_node) Unguarded)
+        on_side plain on = of_value (value_of i.name (valued_of classes r)) refl
+          where
+            of_value : (o : Option Sub) → value_of i.name (valued_of classes r) ≡ o → HoldsGuard hs p (cond (is_side_name classes key.extent i.name && names_target tail) (GuardedBy e_node) Unguarded)
+            of_value o f = by o f (subs_are o f)
+              where
+                subs_are : (o : Option Sub) → value_of i.name (valued_of classes r) ≡ o → subs ≡ or_blank o ∷ []
+                subs_are o f =
+                    let same : Some (or_blank (value_of i.name (valued_of classes r)) ∷ []) ≡ Some subs = sym (alone_key i i.name (valued_of classes r) plain on.alone) ∙ is in
+                    let one : or_blank (value_of i.name (valued_of classes r)) ∷ [] ≡ subs = cc same in
+                    sym one ∙ ap (λ v. or_blank v ∷ []) f
+
+                by : (o : Option Sub) → value_of i.name (valued_of classes r) ≡ o → subs ≡ or_blank o ∷ [] → HoldsGuard hs p (cond (is_side_name classes key.extent i.name && names_target tail) (GuardedBy e_node) Unguarded)
+                by None f same = unnamed (is_side_name classes key.extent i.name) (names_target tail) (ap (λ (ss : List Sub). names_target (ss ++ sub_of (id_text key.id) ∷ [])) same ∙ blank_apart (sub_of (id_text key.id) ∷ []))
+                by (Some s) f same =
+                    let v = value_has i.name (valued_of classes r) s f in
+                    let k = on.side v.0.0 (prop_has v.0 v.1) v.2 in
+                    let name : i.name ≡ v.0.0.name = same_text-is i.name v.0.0.name v.2 in
+                    holding (is_side_name classes key.extent i.name && names_target tail)
+                    (side v.0 v.1 k.0 k.1 k.2 s v.3 (at ∙ ap (entry_node key i.name) same ∙ ap (λ w. entry_node key w (s ∷ [])) name))
+
+        by : (u : Bool) → i.unique ≡ u → HoldsGuard hs p (cond (is_unique_name classes key.extent i.name) (GuardedBy (key_node key i.name subs)) (cond (is_side_name classes key.extent i.name && names_target tail) (GuardedBy e_node) Unguarded))
+        by true e = subst (λ c. HoldsGuard hs p (cond c (GuardedBy (key_node key i.name subs)) (cond (is_side_name classes key.extent i.name && names_target tail) (GuardedBy e_node) Unguarded))) (sym (unique_named i has e)) (unique i has e subs is at)
+        by false e =
+            let n = schema.plain r.class key.extent i in' has e in
+            subst (λ c. HoldsGuard hs p (cond c (GuardedBy (key_node key i.name subs)) (cond (is_side_name classes key.extent i.name && names_target tail) (GuardedBy e_node) Unguarded))) (sym n.0)
+            (⊎_elim (λ none. free (is_side_name classes key.extent i.name) (names_target tail) none) (on_side e) n.1)
     guard_held hs p m own (BySide e has class inverse kind s is at) unique side =
         subst (λ n. HoldsGuard hs p (key_guard classes n)) (sym at)
         (subst (HoldsGuard hs p) (sym (entry_guard e.0.name (s ∷ []) (ap (owner classes) (sym at) ∙ own)))
-        (subst (λ c. HoldsGuard hs p (cond c (GuardedBy (key_node key e.0.name (s ∷ []))) (cond (is_side_name classes key.extent e.0.name) (GuardedBy (entry_node key e.0.name (s ∷ []))) Unguarded))) (sym (schema.sides r.class key.extent e.0 class inverse in' (prop_has e has) kind))
-        (by (is_side_name classes key.extent e.0.name))))
+        (subst (λ c. HoldsGuard hs p (cond c (GuardedBy (key_node key e.0.name (s ∷ []))) (cond (is_side_name classes key.extent e.0.name && names_target (s ∷ sub_of (id_text key.id) ∷ [])) (GuardedBy (entry_node key e.0.name (s ∷ []))) Unguarded)))
+        (sym (schema.sides r.class key.extent e.0 class inverse in' (prop_has e has) kind))
+        (by (is_side_name classes key.extent e.0.name && names_target (s ∷ sub_of (id_text key.id) ∷ [])))))
       where
         by : (c : Bool) → HoldsGuard hs p (cond c (GuardedBy (entry_node key e.0.name (s ∷ []))) Unguarded)
         by true = subst (HoldsToEnd hs p) at (side e has class inverse kind s is at)

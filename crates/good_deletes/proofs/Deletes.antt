@@ -182,7 +182,7 @@ module _ (t : Setting) (schema : IsStorableSchema t.classes) (tries most : ℕ) 
 
     no_members_at : (b : Both) → t.Inv b → Killing key r b → Each (HasNoMembers t.classes b.store b.objects t.p key) (many_sides t.classes r.class)
     no_members_at b w h = each_to (λ m. NoneBelow key m b) (HasNoMembers t.classes b.store b.objects t.p key) (many_sides t.classes r.class)
-        (λ m bare. record { held = bare.held; unnamed = no_members_unnamed t.classes (view b.objects t.p.0) key m (λ id member. no_member t schema (view b.objects t.p.0) (t.sound b t.p w) m key (λ n j below is. bare.none n j below is) id member) }) h.2
+        (λ m bare. record { held = bare.held; unnamed = no_members_unnamed t.classes (view b.objects t.p.0) key m (λ id member. no_member t schema (view b.objects t.p.0) (t.sound b t.p w) m key real (λ n j below is. bare.none n j below is) id member) }) h.2
 
     safe_now : (b : Both) → t.Inv b → Killing key r b → IsSafeDelete t.classes b.store b.objects t.p key
     safe_now b w h = record { row = h.0.0; object = r; there = h.0.1; members = no_members_at b w h }

@@ -33,12 +33,13 @@ use Rattle.storage_map.specs.Entries.{indexed, key_node, entry_node, entry_if, s
 use Rattle.storage_map.specs.Worlds.{or_value, stands_at, is_side_named, owner, IsKeyOf}
 use Rattle.storage_map.specs.Keys.{Side, side_in, sides_of, target_in}
 use Rattle.storage_map.specs.SoundWorlds.{IsSound}
+use Rattle.storage_map.proofs.OwnerLaws.{id_back}
 use Rattle.world_images.proofs.EntryLaws.{class_listed, entries_belong}
 use Rattle.store_core.specs.Guard.{Unguarded, GuardedBy}
 use Rattle.object_calls.specs.Extents.{extent_at}
 use Rattle.object_calls.specs.Keys.{ManySide, members_node}
 use Rattle.object_runs.specs.Causes.{Has, IsMember}
-use Rattle.object_runs.specs.Invariant.{is_side_name, key_guard, shown}
+use Rattle.object_runs.specs.Invariant.{is_side_name, names_target, key_guard, shown}
 use Rattle.call_rules.specs.Settings.{Setting}
 use Rattle.call_rules.specs.Schemas.{IsStorableSchema}
 use Rattle.call_rules.proofs.Apart.{IsBelow}
@@ -135,7 +136,7 @@ side_named classes extent q p c inverse in' has is = by (class_of classes q.clas
 abbrev pub IsChild : Node → Node → Key → Type 0
 IsChild x n j = (s : Sub) × (n ≡ child x s)
 
-module _ (t : Setting) (schema : IsStorableSchema t.classes) (v : World) (sound : IsSound t.classes v) (m : ManySide) (holder : Key) where
+module _ (t : Setting) (schema : IsStorableSchema t.classes) (v : World) (sound : IsSound t.classes v) (m : ManySide) (holder : Key) (real : IsKeyOf t.classes holder) where
   abbrev x : Node
   x = members_node t.classes m holder.id
 
@@ -162,7 +163,9 @@ module _ (t : Setting) (schema : IsStorableSchema t.classes) (v : World) (sound 
       let prop = prop_has t.classes key at.key_of schema q at.record_of.extent e from.1 in
       let guard : key_guard t.classes n ≡ GuardedBy n =
       entry_guard t.classes key at.key_of e.0.name (sub_of (id_text holder.id) ∷ []) own
-      ∙ ap (λ c. cond c (GuardedBy (key_node key e.0.name (sub_of (id_text holder.id) ∷ []))) (cond (is_side_name t.classes key.extent e.0.name) (GuardedBy n) Unguarded)) (schema.sides q.class key.extent e.0 side.class side.inverse at.record_of.extent prop side.is_one)
-      ∙ ap (λ c. cond c (GuardedBy n) Unguarded) (side_named t.classes key.extent q e.0 side.class side.inverse at.record_of.extent prop side.is_one) in
+      ∙ ap (λ c. cond c (GuardedBy (key_node key e.0.name (sub_of (id_text holder.id) ∷ []))) (cond (is_side_name t.classes key.extent e.0.name && names_target (sub_of (id_text holder.id) ∷ sub_of (id_text key.id) ∷ [])) (GuardedBy n) Unguarded))
+      (schema.sides q.class key.extent e.0 side.class side.inverse at.record_of.extent prop side.is_one)
+      ∙ ap (λ c. cond c (GuardedBy n) Unguarded)
+      (both _ _ (side_named t.classes key.extent q e.0 side.class side.inverse at.record_of.extent prop side.is_one) (ap is_some (id_back holder.id real.id.0 real.id.1))) in
       let below : IsBelow t (members_node t.classes m holder.id) n key = record { owned = own; guard = n; guarded = guard; covered = ap (covers (members_node t.classes m holder.id)) is_child ∙ covers_below (members_node t.classes m holder.id) (sub_of (id_text id) ∷ []) } in
       shown_some t.classes key q n (value.Str []) stands (sym (ap (shown t.classes key n) member.there) ∙ bare n key below (sub_of (id_text id), is_child))

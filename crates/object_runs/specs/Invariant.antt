@@ -24,7 +24,7 @@ use Rattle.schema_kinds.specs.Classes.{class_names, extent_of}
 use Rattle.schema_kinds.specs.Worlds.{World, Change}
 use Rattle.record_layout.specs.Rows.{data_node}
 use Rattle.storage_map.specs.Markers.{is_extent}
-use Rattle.storage_map.specs.Worlds.{extent_with, owner, stands_at, is_side_named}
+use Rattle.storage_map.specs.Worlds.{id_of_sub, extent_with, owner, stands_at, is_side_named}
 use Rattle.lock_table.specs.Holds.{Holds, hold, kept}
 use Rattle.tran_log.specs.Levels.{Levels}
 use Rattle.store_core.specs.Machine.{State, levels_at}
@@ -59,10 +59,16 @@ is_unique_name classes extent name =
 abbrev pub is_side_name : List Class → ClassName → List ℕ → Bool
 is_side_name classes extent name = list_any (λ c. is_extent extent (extent_of classes c.name) && list_any (λ p. is_side_named name p p.kind) c.props) classes
 
+-- The subscripts behind an entry's name begin with the id of a target. An index on a one side alone may have the side's name; its entries are then the
+-- side's, but where there is no target: there it has a blank, and the side has no entry.
+abbrev pub names_target : List Sub → Bool
+names_target [] = false
+names_target (s ∷ ss) = is_some (id_of_sub s)
+
 -- entries of a unique index are guarded by the node of their key, those of one sides by themselves, all others by the row alone
 abbrev pub entry_guarding : List Class → ClassName → Node → List Sub → Guarding
 entry_guarding classes extent n (Str name ∷ ss) =
-    cond (is_unique_name classes extent name) (GuardedBy (record { global = n.global; subs = without_last n.subs })) (cond (is_side_name classes extent name) (GuardedBy n) Unguarded)
+    cond (is_unique_name classes extent name) (GuardedBy (record { global = n.global; subs = without_last n.subs })) (cond (is_side_name classes extent name && names_target ss) (GuardedBy n) Unguarded)
 entry_guarding classes extent n ss = Unguarded
 
 abbrev pub guarding_in : List Class → Node → Option ClassName → Option Key → Guarding
