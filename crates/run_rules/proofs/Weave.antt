@@ -31,10 +31,24 @@ use Rattle.run_rules.proofs.Held.{same_or, one_pid, live_other}
 use Rattle.run_rules.proofs.Whole.{desk_own, desk_other, saving_open}
 use Rattle.run_rules.proofs.Step.{whole_step, start_structured, cleared_image, levels_show}
 
--- each entry of a process is what it asks, or its End
-abbrev pub AreAskedOrEnd : Call Ending → List Entry → Type 0
-AreAskedOrEnd c [] = Unit {0}
-AreAskedOrEnd c (e ∷ es) = ((e.op ≡ End) ⊎ ((tag : Tag) × (step c ≡ Asks e.op tag))) × AreAskedOrEnd (answered c e.reply) es
+-- each entry of a process is asked by what is left of its call, or its End
+abbrev pub AreAskedOrEnd : (Call Ending → Entry → Type 0) → Call Ending → List Entry → Type 0
+AreAskedOrEnd IsAsked c [] = Unit {0}
+AreAskedOrEnd IsAsked c (e ∷ es) = ((e.op ≡ End) ⊎ IsAsked c e) × AreAskedOrEnd IsAsked (answered c e.reply) es
+
+-- its next operation
+abbrev pub IsNext : Call Ending → Entry → Type 0
+IsNext c e = (tag : Tag) × (step c ≡ Asks e.op tag)
+
+-- What is asked of a notion of good calls: what another process asks leaves a call good; an entry that is asked may come, and leaves the rest good; what is
+-- told is true.
+pub record Goodness (classes : List Class) (Facts : State → Desks → Pid → Change → Type 0) (truth : Truth) : Type 1 where
+  pub Good : Pid → Call Ending → Both → Type 0
+  pub IsAsked : Call Ending → Entry → Type 0
+  pub stays : (q : Pid) (c : Call Ending) (b : Both) (e : Event) → e.pid.0 ≢ q.0 → IsFit classes Facts b e.pid e.op e.tag → Good q c b → Good q c (step_by b e)
+  pub comes : (c : Call Ending) (b : Both) (e : Entry) → IsAsked c e → Good e.pid c b → is_live b.store e.pid ≡ true
+      → MayCome classes Facts b.store b.objects e.pid e.op (tag_by (step c)) × (e.reply ≡ reply b.store e.pid e.op → Good e.pid (answered c e.reply) (next b e.pid e.op (tag_by (step c))))
+  pub tells : (q : Pid) (c : Call Ending) (b : Both) → Good q c b → Each (truth (desk_at b.objects q.0).own) (told c)
 
 module _ (classes : List Class) (Facts : State → Desks → Pid → Change → Type 0) (truth : Truth) where
   -- what another process asks leaves a call good
@@ -68,18 +82,39 @@ module _ (classes : List Class) (Facts : State → Desks → Pid → Change → 
       subst (λ x. MayCome classes Facts b.store b.objects p op x × IsGood classes Facts truth p (k (reply b.store p op)) (next b p op x)) same_tag
       (subst (λ x. MayCome classes Facts b.store b.objects p x tag' × IsGood classes Facts truth p (k (reply b.store p x)) (next b p x tag')) same_op g)
 
+  pub asked_comes : (c : Call Ending) (b : Both) (e : Entry) → IsNext c e → IsGood classes Facts truth e.pid c b → is_live b.store e.pid ≡ true
+      → MayCome classes Facts b.store b.objects e.pid e.op (tag_by (step c))
+      × (e.reply ≡ reply b.store e.pid e.op → IsGood classes Facts truth e.pid (answered c e.reply) (next b e.pid e.op (tag_by (step c))))
+  asked_comes c b e h good live =
+      let m = asks_fit e.pid c b e.op h.0 good live h.1 in
+      let tag_is : tag_by (step c) ≡ h.0 = ap tag_by h.1 in (
+        subst (MayCome classes Facts b.store b.objects e.pid e.op) (sym tag_is) m.0,
+        λ is. subst (λ x. IsGood classes Facts truth e.pid (answered c x) (next b e.pid e.op (tag_by (step c)))) (sym is)
+            (subst (λ x. IsGood classes Facts truth e.pid (answered c (reply b.store e.pid e.op)) (next b e.pid e.op x)) (sym tag_is) m.1),
+      )
+
+  -- calls of which each operation may come are good
+  abbrev pub plain_goodness : Goodness classes Facts truth
+  plain_goodness = record {
+    Good = λ p c b. IsGood classes Facts truth p c b;
+    IsAsked = IsNext;
+    stays = λ q c b e ne fit good. meets_after q c (λ a b. Unit {0}) b e (λ a u. tt) ne fit good;
+    comes = asked_comes;
+    tells = λ q c b good. told_is_true q c (λ a b. Unit {0}) b good;
+  }
+
   -- ---- one entry
 
   abbrev tag_at : Meaning → Entry → Tag
   tag_at meaning e = tag_by (step (meaning e.pid.0))
 
-  module _ (Inv : Both → Type 0) (keeps : (b : Both) (p : Pid) (op : Op) (tag : Tag) → Inv b → IsFit classes Facts b p op tag → Inv (next b p op tag))
+  module _ (G : Goodness classes Facts truth) (Inv : Both → Type 0) (keeps : (b : Both) (p : Pid) (op : Op) (tag : Tag) → Inv b → IsFit classes Facts b p op tag → Inv (next b p op tag))
       (has : (b : Both) → Inv b → IsStructured classes b.store b.objects) where
     -- the good meanings of the live processes, and what is left of the history
     pub record IsRunning (meaning : Meaning) (b : Both) (es : List Entry) : Type 0 where
       pub whole : Inv b
-      pub good : (q : Pid) → is_live b.store q ≡ true → IsGood classes Facts truth q (meaning q.0) b
-      pub asked : (q : Pid) → is_live b.store q ≡ true → AreAskedOrEnd (meaning q.0) (part_of q.0 es)
+      pub good : (q : Pid) → is_live b.store q ≡ true → G.Good q (meaning q.0) b
+      pub asked : (q : Pid) → is_live b.store q ≡ true → AreAskedOrEnd G.IsAsked (meaning q.0) (part_of q.0 es)
       pub legal : IsLegal b.store es
 
     own_same : (e : Entry) (es : List Entry) → part_of e.pid.0 (e ∷ es) ≡ e ∷ part_of e.pid.0 es
@@ -94,9 +129,9 @@ module _ (classes : List Class) (Facts : State → Desks → Pid → Change → 
         differ : (p q : ℕ) → p ≢ q → (p == q) ≡ false
         differ p q ne = grind (arith, nat_tests)
 
-    next_of : (meaning : Meaning) (e : Entry) (es : List Entry) → AreAskedOrEnd (meaning e.pid.0) (part_of e.pid.0 (e ∷ es))
-        → ((e.op ≡ End) ⊎ ((tag : Tag) × (step (meaning e.pid.0) ≡ Asks e.op tag))) × AreAskedOrEnd (answered (meaning e.pid.0) e.reply) (part_of e.pid.0 es)
-    next_of meaning e es a = subst (AreAskedOrEnd (meaning e.pid.0)) (own_same e es) a
+    next_of : (meaning : Meaning) (e : Entry) (es : List Entry) → AreAskedOrEnd G.IsAsked (meaning e.pid.0) (part_of e.pid.0 (e ∷ es))
+        → ((e.op ≡ End) ⊎ G.IsAsked (meaning e.pid.0) e) × AreAskedOrEnd G.IsAsked (answered (meaning e.pid.0) e.reply) (part_of e.pid.0 es)
+    next_of meaning e es a = subst (AreAskedOrEnd G.IsAsked (meaning e.pid.0)) (own_same e es) a
 
     left_same : (meaning : Meaning) (e : Entry) → meaning_after meaning e e.pid.0 ≡ answered (meaning e.pid.0) e.reply
     left_same meaning e = ap (λ b. cond b (answered (meaning e.pid.0) e.reply) (meaning e.pid.0)) (same e.pid.0)
@@ -116,19 +151,13 @@ module _ (classes : List Class) (Facts : State → Desks → Pid → Change → 
 
     -- the entry may come, and what it leaves of its process is good where that is still live
     entry_fits : (meaning : Meaning) (b : Both) (e : Entry) (es : List Entry) → IsRunning meaning b (e ∷ es)
-        → IsFit classes Facts b e.pid e.op (tag_at meaning e) × (e.op ≢ End → IsGood classes Facts truth e.pid (answered (meaning e.pid.0) e.reply) (moved meaning b e))
+        → IsFit classes Facts b e.pid e.op (tag_at meaning e) × (e.op ≢ End → G.Good e.pid (answered (meaning e.pid.0) e.reply) (moved meaning b e))
     entry_fits meaning b e es r =
         let live = r.legal.0.0 in
         ⊎_elim
         (λ is. ((live, inl is), λ ne. absurd (ne is)))
-        (λ h.
-        let m = asks_fit e.pid (meaning e.pid.0) b e.op h.0 (r.good e.pid live) live h.1 in
-        let tag_is : tag_at meaning e ≡ h.0 = ap tag_by h.1 in (
-          (live, inr (subst (MayCome classes Facts b.store b.objects e.pid e.op) (sym tag_is) m.0)),
-          λ ne. subst (IsGood classes Facts truth e.pid (answered (meaning e.pid.0) e.reply)) (sym (moved_is meaning b e r.legal.0.1))
-              (subst (λ x. IsGood classes Facts truth e.pid (answered (meaning e.pid.0) x) (next b e.pid e.op (tag_at meaning e))) (sym r.legal.0.1)
-              (subst (λ x. IsGood classes Facts truth e.pid (answered (meaning e.pid.0) (reply b.store e.pid e.op)) (next b e.pid e.op x)) (sym tag_is) m.1)),
-        ))
+        (λ h. let m = G.comes (meaning e.pid.0) b e h (r.good e.pid live) live in
+        ((live, inr m.0), λ ne. subst (G.Good e.pid (answered (meaning e.pid.0) e.reply)) (sym (moved_is meaning b e r.legal.0.1)) (m.1 r.legal.0.1)))
         (next_of meaning e es (r.asked e.pid live)).0
 
     ended_dead : (s : State) (p : Pid) (op : Op) → op ≡ End → is_live (after s p op) p ≡ true → ⊥
@@ -144,7 +173,7 @@ module _ (classes : List Class) (Facts : State → Desks → Pid → Change → 
         by End = inl refl
         by _ = inr (λ is. cc is)
 
-    running_after : (meaning : Meaning) (b : Both) (e : Entry) (es : List Entry) → IsRunning meaning b (e ∷ es) → IsRunning (meaning_after meaning e) (moved meaning b e) es
+    pub running_after : (meaning : Meaning) (b : Both) (e : Entry) (es : List Entry) → IsRunning meaning b (e ∷ es) → IsRunning (meaning_after meaning e) (moved meaning b e) es
     running_after meaning b e es r =
         let f = entry_fits meaning b e es r in
         record {
@@ -158,20 +187,20 @@ module _ (classes : List Class) (Facts : State → Desks → Pid → Change → 
         was_live q ne live = ap is_some (sym (live_other b.store e.pid e.op q.0 ne)) ∙ live
 
         good_at : (q : Pid) → is_live (moved meaning b e).store q ≡ true → (q.0 ≡ e.pid.0) ⊎ (q.0 ≢ e.pid.0)
-            → IsFit classes Facts b e.pid e.op (tag_at meaning e) × (e.op ≢ End → IsGood classes Facts truth e.pid (answered (meaning e.pid.0) e.reply) (moved meaning b e)) → IsGood classes Facts truth q (meaning_after meaning e q.0) (moved meaning b e)
+            → IsFit classes Facts b e.pid e.op (tag_at meaning e) × (e.op ≢ End → G.Good e.pid (answered (meaning e.pid.0) e.reply) (moved meaning b e)) → G.Good q (meaning_after meaning e q.0) (moved meaning b e)
         good_at q live (inl is) f =
             let at_p : is_live (moved meaning b e).store e.pid ≡ true = subst (λ x. is_live (moved meaning b e).store x ≡ true) (one_pid q e.pid is) live in
-            subst (λ x. IsGood classes Facts truth x (meaning_after meaning e x.0) (moved meaning b e)) (sym (one_pid q e.pid is))
-            (subst (λ c. IsGood classes Facts truth e.pid c (moved meaning b e)) (sym (left_same meaning e)) (f.1 (λ end. ended_dead b.store e.pid e.op end at_p)))
+            subst (λ x. G.Good x (meaning_after meaning e x.0) (moved meaning b e)) (sym (one_pid q e.pid is))
+            (subst (λ c. G.Good e.pid c (moved meaning b e)) (sym (left_same meaning e)) (f.1 (λ end. ended_dead b.store e.pid e.op end at_p)))
         good_at q live (inr ne) f =
             let ev : Event = record { pid = e.pid; op = e.op; tag = tag_at meaning e } in
-            subst (λ c. IsGood classes Facts truth q c (moved meaning b e)) (sym (left_other meaning e q.0 ne))
-            (subst (IsGood classes Facts truth q (meaning q.0)) (sym (moved_is meaning b e r.legal.0.1))
-            (meets_after q (meaning q.0) (λ a b. Unit {0}) b ev (λ a u. tt) (λ is. ne (sym is)) f.0 (r.good q (was_live q ne live))))
+            subst (λ c. G.Good q c (moved meaning b e)) (sym (left_other meaning e q.0 ne))
+            (subst (G.Good q (meaning q.0)) (sym (moved_is meaning b e r.legal.0.1))
+            (G.stays q (meaning q.0) b ev (λ is. ne (sym is)) f.0 (r.good q (was_live q ne live))))
 
-        asked_at : (q : Pid) → is_live (moved meaning b e).store q ≡ true → (q.0 ≡ e.pid.0) ⊎ (q.0 ≢ e.pid.0) → AreAskedOrEnd (meaning_after meaning e q.0) (part_of q.0 es)
-        asked_at q live (inl is) = subst (λ x. AreAskedOrEnd (meaning_after meaning e x.0) (part_of x.0 es)) (sym (one_pid q e.pid is)) (subst (λ c. AreAskedOrEnd c (part_of e.pid.0 es)) (sym (left_same meaning e)) (next_of meaning e es (r.asked e.pid r.legal.0.0)).1)
-        asked_at q live (inr ne) = subst (λ c. AreAskedOrEnd c (part_of q.0 es)) (sym (left_other meaning e q.0 ne)) (subst (AreAskedOrEnd (meaning q.0)) (own_other q e es (λ is. ne (sym is))) (r.asked q (was_live q ne live)))
+        asked_at : (q : Pid) → is_live (moved meaning b e).store q ≡ true → (q.0 ≡ e.pid.0) ⊎ (q.0 ≢ e.pid.0) → AreAskedOrEnd G.IsAsked (meaning_after meaning e q.0) (part_of q.0 es)
+        asked_at q live (inl is) = subst (λ x. AreAskedOrEnd G.IsAsked (meaning_after meaning e x.0) (part_of x.0 es)) (sym (one_pid q e.pid is)) (subst (λ c. AreAskedOrEnd G.IsAsked c (part_of e.pid.0 es)) (sym (left_same meaning e)) (next_of meaning e es (r.asked e.pid r.legal.0.0)).1)
+        asked_at q live (inr ne) = subst (λ c. AreAskedOrEnd G.IsAsked c (part_of q.0 es)) (sym (left_other meaning e q.0 ne)) (subst (AreAskedOrEnd G.IsAsked (meaning q.0)) (own_other q e es (λ is. ne (sym is))) (r.asked q (was_live q ne live)))
 
     -- ---- the whole history
 
@@ -185,7 +214,7 @@ module _ (classes : List Class) (Facts : State → Desks → Pid → Change → 
         by : (c : Bool) → e.op ≢ End → Each (truth (desk_at (moved meaning b e).objects e.pid.0).own) (cond c [] (told (meaning_after meaning e e.pid.0)))
         by true ne = tt
         by false ne = subst (λ c. Each (truth (desk_at (moved meaning b e).objects e.pid.0).own) (told c)) (sym (left_same meaning e))
-            (told_is_true e.pid (answered (meaning e.pid.0) e.reply) (λ a b. Unit {0}) (moved meaning b e) ((entry_fits meaning b e es r).1 ne))
+            (G.tells e.pid (answered (meaning e.pid.0) e.reply) (moved meaning b e) ((entry_fits meaning b e es r).1 ne))
 
     -- after a front of the history
     pub running_at : (meaning : Meaning) (b : Both) (es fs : List Entry) → IsRunning meaning b (es ++ fs) → IsRunning (meaning_ran meaning es) (ran meaning b es) fs
@@ -260,13 +289,18 @@ part_append p (e ∷ es) fs = by (e.pid.0 == p) (part_append p es fs)
     by true h = ap (λ xs. e ∷ xs) h
     by false h = h
 
-asked_then_end : (c : Call Ending) (es : List Entry) (e : Entry) → e.op ≡ End → AreAsked c es → AreAskedOrEnd c (es ++ e ∷ [])
-asked_then_end c [] e is asked = (inl is, tt)
-asked_then_end c (x ∷ es) e is asked = (inr asked.0, asked_then_end (answered c x.reply) es e is asked.1)
+asked_then_end : (IsAsked : Call Ending → Entry → Type 0) (c : Call Ending) (es : List Entry) (e : Entry) → e.op ≡ End → AreAskedOrEnd IsAsked c es → AreAskedOrEnd IsAsked c (es ++ e ∷ [])
+asked_then_end IsAsked c [] e is asked = (inl is, tt)
+asked_then_end IsAsked c (x ∷ es) e is asked = (asked.0, asked_then_end IsAsked (answered c x.reply) es e is asked.1)
+
+pub asked_next : (c : Call Ending) (es : List Entry) → AreAsked c es → AreAskedOrEnd IsNext c es
+asked_next c [] asked = tt
+asked_next c (e ∷ es) asked = (inr asked.0, asked_next (answered c e.reply) es asked.1)
 
 -- the entries of a process in a history
-pub process_asked : (classes : List Class) (c : Call Ending) (most : ℕ) (s : State) (p : Pid) (history : List Entry) (o : Outcome) → IsProcessOf classes c most s p history o → AreAskedOrEnd c (part_of p.0 history)
-process_asked classes c most s p history o is = subst (AreAskedOrEnd c) (sym parts) (asked_then_end c is.own is.last is.is_end.1 is.asked)
+pub process_asked : (IsAsked : Call Ending → Entry → Type 0) (classes : List Class) (c : Call Ending) (most : ℕ) (s : State) (p : Pid) (history : List Entry) (o : Outcome) (is : IsProcessOf classes c most s p history o)
+    → AreAskedOrEnd IsAsked c is.own → AreAskedOrEnd IsAsked c (part_of p.0 history)
+process_asked IsAsked classes c most s p history o is asked = subst (AreAskedOrEnd IsAsked c) (sym parts) (asked_then_end IsAsked c is.own is.last is.is_end.1 asked)
   where
     same : (q : ℕ) → (q == q) ≡ true
     same q = grind (arith, nat_tests)
@@ -278,27 +312,28 @@ process_asked classes c most s p history o is = subst (AreAskedOrEnd c) (sym par
         ∙ ap (λ b. is.own ++ cond b (is.last ∷ part_of p.0 is.rest) (part_of p.0 is.rest)) (ap (λ q. q == p.0) (ap (λ (q : Pid). q.0) is.is_end.0) ∙ same p.0)
         ∙ ap (λ xs. is.own ++ is.last ∷ xs) is.no_more
 
-module _ (classes : List Class) (Facts : State → Desks → Pid → Change → Type 0) (truth : Truth) (Inv : Both → Type 0)
+module _ (classes : List Class) (Facts : State → Desks → Pid → Change → Type 0) (truth : Truth) (G : Goodness classes Facts truth) (Inv : Both → Type 0)
     (keeps : (b : Both) (p : Pid) (op : Op) (tag : Tag) → Inv b → IsFit classes Facts b p op tag → Inv (next b p op tag)) (has : (b : Both) → Inv b → IsStructured classes b.store b.objects) where
-  pub start_running : (meaning : Meaning) (pids most : ℕ) (g : Globals) (w : World) (history : List Entry) (outcome : ℕ → Outcome) → Inv (start pids g w) → Runs classes meaning pids most g history outcome
-      → ((p : Pid) → 1 ≤ p.0 → p.0 ≤ pids → IsGood classes Facts truth p (meaning p.0) (start pids g w))
-      → IsRunning classes Facts truth Inv keeps has meaning (start pids g w) history
-  start_running meaning pids most g w history outcome i runs good = record {
+  pub start_running : (meaning : Meaning) (pids most : ℕ) (g : Globals) (w : World) (history : List Entry) (outcome : ℕ → Outcome) → Inv (start pids g w) → (runs : Runs classes meaning pids most g history outcome)
+      → ((p : Pid) → 1 ≤ p.0 → p.0 ≤ pids → G.Good p (meaning p.0) (start pids g w))
+      → ((p : Pid) (from : 1 ≤ p.0) (to : p.0 ≤ pids) → AreAskedOrEnd G.IsAsked (meaning p.0) (runs.processes p from to).own)
+      → IsRunning classes Facts truth G Inv keeps has meaning (start pids g w) history
+  start_running meaning pids most g w history outcome i runs good asked = record {
     whole = i;
     good = λ q live. let n = (opening_guarded (row_guard classes) pids g).numbered q live in good q (omega (arith, n.0)) n.1;
     asked = λ q live. let n = (opening_guarded (row_guard classes) pids g).numbered q live in
-        process_asked classes (meaning q.0) most (opening pids g) q history (outcome q.0) (runs.processes q (omega (arith, n.0)) n.1);
+        process_asked G.IsAsked classes (meaning q.0) most (opening pids g) q history (outcome q.0) (runs.processes q (omega (arith, n.0)) n.1) (asked q (omega (arith, n.0)) n.1);
     legal = runs.legal.0;
   }
 
-  pub keeps_worlds : (meaning : Meaning) (b : Both) (history : List Entry) → IsRunning classes Facts truth Inv keeps has meaning b history → KeepsWorlds classes meaning b history
+  pub keeps_worlds : (meaning : Meaning) (b : Both) (history : List Entry) → IsRunning classes Facts truth G Inv keeps has meaning b history → KeepsWorlds classes meaning b history
   keeps_worlds meaning b history r = record {
-    whole = λ es fs is. let h = running_at classes Facts truth Inv keeps has meaning b es fs (subst (IsRunning classes Facts truth Inv keeps has meaning b) (sym is) r) in
+    whole = λ es fs is. let h = running_at classes Facts truth G Inv keeps has meaning b es fs (subst (IsRunning classes Facts truth G Inv keeps has meaning b) (sym is) r) in
         cleared_image classes (ran meaning b es).store (ran meaning b es).objects (has (ran meaning b es) h.whole);
-    levels = λ es fs is. let h = running_at classes Facts truth Inv keeps has meaning b es fs (subst (IsRunning classes Facts truth Inv keeps has meaning b) (sym is) r) in
+    levels = λ es fs is. let h = running_at classes Facts truth G Inv keeps has meaning b es fs (subst (IsRunning classes Facts truth G Inv keeps has meaning b) (sym is) r) in
         levels_show classes (ran meaning b es).store (ran meaning b es).objects (has (ran meaning b es) h.whole);
-    failures = λ es fs e is. let h = running_at classes Facts truth Inv keeps has meaning b es (e ∷ fs) (subst (IsRunning classes Facts truth Inv keeps has meaning b) (sym is) r) in
-        failure_at classes Facts truth Inv keeps has (meaning_ran meaning es) (ran meaning b es) e fs h;
+    failures = λ es fs e is. let h = running_at classes Facts truth G Inv keeps has meaning b es (e ∷ fs) (subst (IsRunning classes Facts truth G Inv keeps has meaning b) (sym is) r) in
+        failure_at classes Facts truth G Inv keeps has (meaning_ran meaning es) (ran meaning b es) e fs h;
   }
 
 pub good_runs_keep_worlds : GoodRunsKeepWorlds
@@ -306,5 +341,6 @@ good_runs_keep_worlds classes meaning pids most g w history outcome opens runs g
     let Inv : Both → Type 0 = λ b. IsStructured classes b.store b.objects in
     let keeps : (b : Both) (p : Pid) (op : Op) (tag : Tag) → Inv b → IsFit classes NoFacts b p op tag → Inv (next b p op tag) = whole_step classes NoFacts in
     let has : (b : Both) → Inv b → IsStructured classes b.store b.objects = λ b i. i in
-    keeps_worlds classes NoFacts Anything Inv keeps has meaning (start pids g w) history
-    (start_running classes NoFacts Anything Inv keeps has meaning pids most g w history outcome (start_structured classes pids g w opens) runs good)
+    keeps_worlds classes NoFacts Anything (plain_goodness classes NoFacts Anything) Inv keeps has meaning (start pids g w) history
+    (start_running classes NoFacts Anything (plain_goodness classes NoFacts Anything) Inv keeps has meaning pids most g w history outcome (start_structured classes pids g w opens) runs good
+    (λ p from to. asked_next (meaning p.0) (runs.processes p from to).own (runs.processes p from to).asked))

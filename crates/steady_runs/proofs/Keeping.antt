@@ -31,7 +31,7 @@ use Rattle.run_rules.specs.Good.{IsGood}
 use Rattle.run_rules.specs.Laws.{Anything, KeepsWorlds}
 use Rattle.run_rules.proofs.Turns.{bare_owner, covers_global, counter_unowned}
 use Rattle.run_rules.proofs.Step.{whole_step, structured, start_structured}
-use Rattle.run_rules.proofs.Weave.{IsRunning, running_at, start_running, keeps_worlds}
+use Rattle.run_rules.proofs.Weave.{plain_goodness, asked_next, IsRunning, running_at, start_running, keeps_worlds}
 use Rattle.sound_runs.specs.Closing.{IsSafeChange}
 use Rattle.sound_runs.specs.Backed.{IsBacked, HasSoundViews, IsInPlace, SparesCounters, DrawsOfExtents, IsOrderly}
 use Rattle.sound_runs.specs.Pairs.{ArePaired}
@@ -178,10 +178,12 @@ starts_are_steady classes pids g w opens =
 
 pub safe_runs_are_steady : SafeRunsAreSteady
 safe_runs_are_steady classes meaning pids most g w history outcome paired opens runs good =
+    let G = plain_goodness classes (IsSafeChange classes) Anything in
     let Inv : Both → Type 0 = IsSteady classes in
     let keeps : (b : Both) (p : Pid) (op : Op) (tag : Tag) → Inv b → IsFit classes (IsSafeChange classes) b p op tag → Inv (next b p op tag) = λ b p op tag i fit. entries_keep_steady classes b p op tag paired i fit in
     let has : (b : Both) → Inv b → IsStructured classes b.store b.objects = has_structure classes in
-    let r = start_running classes (IsSafeChange classes) Anything Inv keeps has meaning pids most g w history outcome (starts_are_steady classes pids g w opens) runs good in (
-      keeps_worlds classes (IsSafeChange classes) Anything Inv keeps has meaning (start pids g w) history r,
-      λ es fs is. (running_at classes (IsSafeChange classes) Anything Inv keeps has meaning (start pids g w) es fs (subst (IsRunning classes (IsSafeChange classes) Anything Inv keeps has meaning (start pids g w)) (sym is) r)).whole,
+    let r = start_running classes (IsSafeChange classes) Anything G Inv keeps has meaning pids most g w history outcome (starts_are_steady classes pids g w opens) runs good
+    (λ p from to. asked_next (meaning p.0) (runs.processes p from to).own (runs.processes p from to).asked) in (
+      keeps_worlds classes (IsSafeChange classes) Anything G Inv keeps has meaning (start pids g w) history r,
+      λ es fs is. (running_at classes (IsSafeChange classes) Anything G Inv keeps has meaning (start pids g w) es fs (subst (IsRunning classes (IsSafeChange classes) Anything G Inv keeps has meaning (start pids g w)) (sym is) r)).whole,
     )

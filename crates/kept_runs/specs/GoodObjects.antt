@@ -1,0 +1,33 @@
+-- Objects whose calls ask only what may come, up to a mark of a low level, and keep what is asked of their memory.
+use Rattle.std.specs.Prelude.{ℕ, Bool, List}
+use Rattle.obj_kinds.specs.declared.name.ClassName.{ClassName}
+use Rattle.obj_kinds.specs.declared.op.Pid.{Pid}
+use Rattle.schema_kinds.specs.declared.class.Class.{Class}
+use Rattle.os_kinds.specs.declared.call.Answer.{Answer}
+use Rattle.os_kinds.specs.declared.val.Val.{Val}
+use Rattle.os_meaning.specs.Syntax.{Name}
+use Rattle.host_meaning.specs.Objects.{Known, Objects, ObjectCall}
+use Rattle.object_runs.specs.Runs.{Both}
+use Rattle.sound_runs.specs.Closing.{IsSafeChange}
+use Rattle.good_calls.specs.Laws.{ShowsLoads, IsAtRest}
+use Rattle.kept_runs.specs.Kept.{MeetsKept}
+
+module _ {M : Type 0} (classes : List Class) (p : Pid) (IsMemory : M → Type 0) where
+  -- behind a call the process is within no save or delete, and its memory is as asked
+  abbrev pub RestsWith : Known M × Answer → Both → Type 0
+  RestsWith x b = IsMemory x.0.memory × IsAtRest classes p b
+
+  abbrev pub IsGoodCall : ObjectCall M → Type 0
+  IsGoodCall call =
+      (s : Known M) (low : Bool) (b : Both) → IsMemory s.memory → IsAtRest classes p b → MeetsKept classes (IsSafeChange classes) ShowsLoads p (call s) low RestsWith b
+
+  pub record AreGoodObjects (objects : Objects M) : Type 0 where
+    pub empty : IsMemory objects.empty
+    pub more : (n : ℕ) (m : M) → IsMemory m → IsMemory (objects.more n m)
+    pub less : (n : ℕ) (m : M) → IsMemory m → IsMemory (objects.less n m)
+    pub given : (m : M) → IsMemory m → IsMemory (objects.given m)
+    pub on_class : (class : ClassName) (name : Name) (args : List Val) → IsGoodCall (objects.on_class class name args)
+    pub on_object : (n : ℕ) (name : Name) (args : List Val) → IsGoodCall (objects.on_object n name args)
+    pub on_items : (n : ℕ) (property name : Name) (args : List Val) → IsGoodCall (objects.on_items n property name args)
+    pub read : (n : ℕ) (property : Name) → IsGoodCall (objects.read n property)
+    pub write : (n : ℕ) (property : Name) (v : Val) → IsGoodCall (objects.write n property v)
