@@ -26,7 +26,7 @@ use Rattle.host_meaning.specs.Objects.{Known, Objects, ObjectCall}
 use Rattle.host_meaning.specs.Process.{Begun, level_after, on_grant, ending_of, Meant, Method, Wrong, BuiltIn, process}
 use Rattle.host_meaning.specs.Process as host
 use Rattle.object_runs.specs.Runs.{Both}
-use Rattle.run_rules.specs.Steps.{MayCome, Event, next, after_all, AreFit}
+use Rattle.run_rules.specs.Steps.{MayCome, IsFit, Event, next, step_by, after_all, AreFit}
 use Rattle.run_rules.specs.Good.{AreOthers}
 use Rattle.sound_runs.specs.Closing.{IsSafeChange}
 use Rattle.good_calls.specs.Laws.{ShowsLoads, IsSoundSchema, IsAtRest}
@@ -37,7 +37,7 @@ use Rattle.kept_runs.specs.GoodObjects.{RestsWith, IsGoodCall, AreGoodObjects}
 use Rattle.kept_runs.specs.Laws.{ProcessesAreGood}
 use Rattle.kept_runs.proofs.Calls.{writes_none}
 
-module _ {M : Type 0} (classes : List Class) (p : Pid) (IsMemory : M → Type 0) (objects : Objects M) (program : Program) (fuel : ℕ) (schema : IsSoundSchema classes) (are : AreGoodObjects classes p IsMemory objects) where
+module _ {M : Type 0} (classes : List Class) (p : Pid) (IsMemory : M → Both → Type 0) (objects : Objects M) (program : Program) (fuel : ℕ) (schema : IsSoundSchema classes) (are : AreGoodObjects classes p IsMemory objects) where
   abbrev State : Type 0
   State = Known M
 
@@ -46,24 +46,34 @@ module _ {M : Type 0} (classes : List Class) (p : Pid) (IsMemory : M → Type 0)
 
   -- what follows is good, whatever is answered
   abbrev Goes : {A : Type 0} → (A → ℕ → State → Call Ending) → Type 0
-  Goes {A} go = (a : A) (units : ℕ) (s : State) (low : Bool) (b : Both) → IsMemory s.memory → IsAtRest classes p b → Fine (go a units s) low b
+  Goes {A} go = (a : A) (units : ℕ) (s : State) (low : Bool) (b : Both) → IsMemory s.memory b → IsAtRest classes p b → Fine (go a units s) low b
 
   abbrev GoesOn : (ℕ → State → Call Ending) → Type 0
-  GoesOn go = (units : ℕ) (s : State) (low : Bool) (b : Both) → IsMemory s.memory → IsAtRest classes p b → Fine (go units s) low b
+  GoesOn go = (units : ℕ) (s : State) (low : Bool) (b : Both) → IsMemory s.memory b → IsAtRest classes p b → Fine (go units s) low b
 
   -- ---- an operation of the script
 
-  asked : (op : Op) (low : Bool) (k : Reply → Call Ending) (b : Both) → IsAtRest classes p b → ((r : Reply) (b : Both) → IsAtRest classes p b → Fine (k r) false b) → Fine (Ask op Plain k) low b
-  asked op low k b rest more = λ no_low no_raw no_end es others fit live.
+  mem_all : (m : M) (b : Both) (es : List Event) → AreOthers p es → AreFit classes (IsSafeChange classes) b es → IsAtRest classes p b → IsMemory m b → IsMemory m (after_all b es)
+  mem_all m b [] others fit rest mem = mem
+  mem_all m b (e ∷ es) others fit rest mem =
+      let t = steadily classes schema ShowsLoads p in
+      mem_all m (step_by b e) es others.1 fit.1 (to_rest classes schema p ShowsLoads (step_by b e) (idle_all t b (e ∷ []) (others.0, tt) (fit.0, tt) (to_idle classes schema p ShowsLoads b rest))) (are.others m b e others.0 rest fit.0 mem)
+
+  asked : (op : Op) (m : M) (low : Bool) (k : Reply → Call Ending) (b : Both) → IsMemory m b → IsAtRest classes p b → ((r : Reply) (b : Both) → IsMemory m b → IsAtRest classes p b → Fine (k r) false b) → Fine (Ask op Plain k) low b
+  asked op m low k b mem rest more = λ no_low no_raw no_end es others fit live.
       let t = steadily classes schema ShowsLoads p in
       let i = idle_all t b es others fit (to_idle classes schema p ShowsLoads b rest) in
       let free = writes_none classes op no_raw in
       let b' = after_all b es in
-      (plain_may t b' op free no_end i, more (reply b'.store p op) (next b' p op Plain) (to_rest classes schema p ShowsLoads (next b' p op Plain) (plain_next t b' op live free no_end i)))
+      let rest' = to_rest classes schema p ShowsLoads b' i in (
+        plain_may t b' op free no_end i,
+        more (reply b'.store p op) (next b' p op Plain) (are.plain m b' op rest' live free no_end (mem_all m b es others fit rest mem))
+            (to_rest classes schema p ShowsLoads (next b' p op Plain) (plain_next t b' op live free no_end i)),
+      )
 
-  asks_fine : (op : Op) (units : ℕ) (s : State) (go : Reply → ℕ → State → Call Ending) (low : Bool) (b : Both) → Goes go → IsMemory s.memory → IsAtRest classes p b → Fine (host.asks objects program fuel op units s go) low b
+  asks_fine : (op : Op) (units : ℕ) (s : State) (go : Reply → ℕ → State → Call Ending) (low : Bool) (b : Both) → Goes go → IsMemory s.memory b → IsAtRest classes p b → Fine (host.asks objects program fuel op units s go) low b
   asks_fine op zero s go low b goes mem rest = tt
-  asks_fine op (suc units) s go low b goes mem rest = asked op low _ b rest (λ r b' rest'. goes r units (record { memory = s.memory; level = level_after op r s.level; test = s.test; last_error = s.last_error }) false b' mem rest')
+  asks_fine op (suc units) s go low b goes mem rest = asked op s.memory low _ b mem rest (λ r b' mem' rest'. goes r units (record { memory = s.memory; level = level_after op r s.level; test = s.test; last_error = s.last_error }) false b' mem' rest')
 
   calls_fine : (c : Call (State × Answer)) (units : ℕ) (go : Answer → ℕ → State → Call Ending) (low : Bool) (b : Both) → MeetsKept classes (IsSafeChange classes) ShowsLoads p c low (RestsWith classes p IsMemory) b → Goes go
       → Fine (host.calls objects program fuel c units go) low b
@@ -79,54 +89,55 @@ module _ {M : Type 0} (classes : List Class) (p : Pid) (IsMemory : M → Type 0)
   granted replies.Granted c d low b f g = f
   granted _ c d low b f g = g
 
-  waits_fine : (op : Op) (units : ℕ) (s : State) (go : Answer → ℕ → State → Call Ending) (low : Bool) (b : Both) → Goes go → IsMemory s.memory → IsAtRest classes p b → Fine (host.waits objects program fuel op units s go) low b
+  waits_fine : (op : Op) (units : ℕ) (s : State) (go : Answer → ℕ → State → Call Ending) (low : Bool) (b : Both) → Goes go → IsMemory s.memory b → IsAtRest classes p b → Fine (host.waits objects program fuel op units s go) low b
   waits_fine op zero s go low b goes mem rest = tt
   waits_fine op (suc units) s go low b goes mem rest =
-      asked op low _ b rest (λ r b' rest'. granted r (go answer.Done units s) (host.waits objects program fuel op units s go) false b' (goes answer.Done units s false b' mem rest') (waits_fine op units s go false b' goes mem rest'))
+      asked op s.memory low _ b mem rest
+      (λ r b' mem' rest'. granted r (go answer.Done units s) (host.waits objects program fuel op units s go) false b' (goes answer.Done units s false b' mem' rest') (waits_fine op units s go false b' goes mem' rest'))
 
-  tries_fine : (op : Op) (units times : ℕ) (s : State) (go : Answer → ℕ → State → Call Ending) (low : Bool) (b : Both) → Goes go → IsMemory s.memory → IsAtRest classes p b → Fine (host.tries objects program fuel op units times s go) low b
+  tries_fine : (op : Op) (units times : ℕ) (s : State) (go : Answer → ℕ → State → Call Ending) (low : Bool) (b : Both) → Goes go → IsMemory s.memory b → IsAtRest classes p b → Fine (host.tries objects program fuel op units times s go) low b
   tries_fine op zero units s go low b goes mem rest = goes answer.Done units _ low b mem rest
   tries_fine op (suc times) units s go low b goes mem rest =
       asks_fine op units s _ low b (λ r units' s' low' b' mem' rest'. granted r _ _ low' b' (goes answer.Done units' _ low' b' mem' rest') (tries_fine op times units' s' go low' b' goes mem' rest')) mem rest
 
   -- ---- the end of a command argument
 
-  unlocks_fine : (ops : List Op) (units : ℕ) (s : State) (go : ℕ → State → Call Ending) (low : Bool) (b : Both) → GoesOn go → IsMemory s.memory → IsAtRest classes p b → Fine (host.unlocks objects program fuel ops units s go) low b
+  unlocks_fine : (ops : List Op) (units : ℕ) (s : State) (go : ℕ → State → Call Ending) (low : Bool) (b : Both) → GoesOn go → IsMemory s.memory b → IsAtRest classes p b → Fine (host.unlocks objects program fuel ops units s go) low b
   unlocks_fine [] units s go low b goes mem rest = goes units s low b mem rest
   unlocks_fine (op ∷ ops) units s go low b goes mem rest = asks_fine op units s _ low b (λ r units' s' low' b' mem' rest'. unlocks_fine ops units' s' go low' b' goes mem' rest') mem rest
 
   -- ---- places
 
-  placed_fine : (v : Val) (m : M) → IsMemory m → IsMemory (host.placed objects program fuel v m)
-  placed_fine (Data v) m mem = mem
-  placed_fine (Ref n class) m mem = are.more n m mem
+  placed_fine : (v : Val) (m : M) (b : Both) → IsMemory m b → IsMemory (host.placed objects program fuel v m) b
+  placed_fine (Data v) m b mem = mem
+  placed_fine (Ref n class) m b mem = are.more n m b mem
 
-  placed_some_fine : (v : Option Val) (m : M) → IsMemory m → IsMemory (host.placed_some objects program fuel v m)
-  placed_some_fine None m mem = mem
-  placed_some_fine (Some v) m mem = placed_fine v m mem
+  placed_some_fine : (v : Option Val) (m : M) (b : Both) → IsMemory m b → IsMemory (host.placed_some objects program fuel v m) b
+  placed_some_fine None m b mem = mem
+  placed_some_fine (Some v) m b mem = placed_fine v m b mem
 
-  placed_vars_fine : (vars : Vars) (m : M) → IsMemory m → IsMemory (host.placed_vars objects program fuel vars m)
-  placed_vars_fine [] m mem = mem
-  placed_vars_fine (x ∷ vars) m mem = placed_vars_fine vars _ (placed_fine x.value m mem)
+  placed_vars_fine : (vars : Vars) (m : M) (b : Both) → IsMemory m b → IsMemory (host.placed_vars objects program fuel vars m) b
+  placed_vars_fine [] m b mem = mem
+  placed_vars_fine (x ∷ vars) m b mem = placed_vars_fine vars (host.placed objects program fuel x.value m) b (placed_fine x.value m b mem)
 
   -- ---- frames
 
   abbrev RunsGood : (Begun → ℕ → State → (Answer → ℕ → State → Call Ending) → Call Ending) → Type 0
   RunsGood run =
-      (b : Begun) (units : ℕ) (s : State) (go : Answer → ℕ → State → Call Ending) (low : Bool) (both : Both) → Goes go → IsMemory s.memory → IsAtRest classes p both → Fine (run b units s go) low both
+      (b : Begun) (units : ℕ) (s : State) (go : Answer → ℕ → State → Call Ending) (low : Bool) (both : Both) → Goes go → IsMemory s.memory both → IsAtRest classes p both → Fine (run b units s go) low both
 
   built_in_fine : (on : Option ClassName) (name : Name) (args : List Val) → IsGoodCall classes p IsMemory (host.built_in_own objects program fuel on name args)
   built_in_fine None name args = λ s low b mem rest. (mem, rest)
   built_in_fine (Some class) name args = are.on_class class name args
 
   module _ (run : Begun → ℕ → State → (Answer → ℕ → State → Call Ending) → Call Ending) (good : RunsGood run) where
-    meant_fine : (m : Meant) (built_in : ObjectCall M) (units : ℕ) (s : State) (go : Answer → ℕ → State → Call Ending) (low : Bool) (b : Both) → IsGoodCall classes p IsMemory built_in → Goes go → IsMemory s.memory → IsAtRest classes p b
+    meant_fine : (m : Meant) (built_in : ObjectCall M) (units : ℕ) (s : State) (go : Answer → ℕ → State → Call Ending) (low : Bool) (b : Both) → IsGoodCall classes p IsMemory built_in → Goes go → IsMemory s.memory b → IsAtRest classes p b
         → Fine (host.meant objects program fuel run m built_in units s go) low b
     meant_fine (Method begun) built_in units s go low b is goes mem rest = good begun units s go low b goes mem rest
     meant_fine (Wrong e) built_in units s go low b is goes mem rest = goes (answer.Error e) units s low b mem rest
     meant_fine BuiltIn built_in units s go low b is goes mem rest = calls_fine (built_in s) units go low b (is s low b mem rest) goes
 
-    needs_fine : (begun : Begun) (c : Need) (units : ℕ) (s : State) (go : Answer → ℕ → State → Call Ending) (low : Bool) (b : Both) → Goes go → IsMemory s.memory → IsAtRest classes p b
+    needs_fine : (begun : Begun) (c : Need) (units : ℕ) (s : State) (go : Answer → ℕ → State → Call Ending) (low : Bool) (b : Both) → Goes go → IsMemory s.memory b → IsAtRest classes p b
         → Fine (host.needs objects program fuel run begun c units s go) low b
     needs_fine begun (call.Store op) units s go low b goes mem rest = asks_fine op units s _ low b (λ r units' s' low' b' mem' rest'. goes (answer.Reply r) units' s' low' b' mem' rest') mem rest
     needs_fine begun (call.TryLock n mode None) units s go low b goes mem rest = waits_fine (host.lock objects program fuel n mode) units s go low b goes mem rest
@@ -142,20 +153,20 @@ module _ {M : Type 0} (classes : List Class) (p : Pid) (IsMemory : M → Type 0)
     needs_fine begun (call.Read n property) units s go low b goes mem rest = calls_fine (objects.read n property s) units go low b (are.read n property s low b mem rest) goes
     needs_fine begun (call.Write n property v) units s go low b goes mem rest = calls_fine (objects.write n property v s) units go low b (are.write n property v s low b mem rest) goes
 
-    runs_fine : (begun : Begun) (f : Frame) (units : ℕ) (s : State) (go : ScriptEnd → ℕ → State → Call Ending) (low : Bool) (b : Both) → Goes go → IsMemory s.memory → IsAtRest classes p b
+    runs_fine : (begun : Begun) (f : Frame) (units : ℕ) (s : State) (go : ScriptEnd → ℕ → State → Call Ending) (low : Bool) (b : Both) → Goes go → IsMemory s.memory b → IsAtRest classes p b
         → Fine (host.runs objects program fuel run begun f units s go) low b
     runs_fine begun (Ends e) units s go low b goes mem rest = goes e units s low b mem rest
     runs_fine begun (Printing t f) units s go low b goes mem rest = (tt, runs_fine begun f units s go (low || false) b goes mem rest)
-    runs_fine begun (Holds n f) units s go low b goes mem rest = runs_fine begun f units _ go low b goes (are.more n s.memory mem) rest
-    runs_fine begun (Loses n f) units s go low b goes mem rest = runs_fine begun f units _ go low b goes (are.less n s.memory mem) rest
+    runs_fine begun (Holds n f) units s go low b goes mem rest = runs_fine begun f units _ go low b goes (are.more n s.memory b mem) rest
+    runs_fine begun (Loses n f) units s go low b goes mem rest = runs_fine begun f units _ go low b goes (are.less n s.memory b mem) rest
     runs_fine begun (Points f) units s go low b goes mem rest =
-        unlocks_fine (objects.waiting s.memory) units _ _ low b (λ units' s' low' b' mem' rest'. runs_fine begun f units' s' go low' b' goes mem' rest') (are.given s.memory mem) rest
+        unlocks_fine (objects.waiting s.memory) units _ _ low b (λ units' s' low' b' mem' rest'. runs_fine begun f units' s' go low' b' goes mem' rest') (are.given s.memory b mem) rest
     runs_fine begun (Spends f) zero s go low b goes mem rest = tt
     runs_fine begun (Spends f) (suc units) s go low b goes mem rest = runs_fine begun f units s go low b goes mem rest
     runs_fine begun (Asks c f) units s go low b goes mem rest =
         needs_fine begun c units s _ low b (λ a units' s' low' b' mem' rest'. runs_fine begun (f a) units' s' go low' b' goes mem' rest') mem rest
 
-  answers_fine : (class : Option ClassName) (e : ScriptEnd) (units : ℕ) (s : State) (go : Answer → ℕ → State → Call Ending) (low : Bool) (b : Both) → Goes go → IsMemory s.memory → IsAtRest classes p b
+  answers_fine : (class : Option ClassName) (e : ScriptEnd) (units : ℕ) (s : State) (go : Answer → ℕ → State → Call Ending) (low : Bool) (b : Both) → Goes go → IsMemory s.memory b → IsAtRest classes p b
       → Fine (host.answers objects program fuel class e units s go) low b
   answers_fine class (end.Done v) units s go low b goes mem rest = goes (answer.Got v) units s low b mem rest
   answers_fine class _ units s go low b goes mem rest = tt
@@ -165,13 +176,13 @@ module _ {M : Type 0} (classes : List Class) (p : Pid) (IsMemory : M → Type 0)
   method_fine (suc frames) begun units s go low b goes mem rest =
       runs_fine (host.method objects program fuel frames) (method_fine frames) begun (host.whole objects program fuel begun) units (host.begins objects program fuel begun s) _ low b
       (λ e units' s' low' b' mem' rest'. answers_fine begun.declarer e units' s' go low' b' goes mem' rest')
-      (placed_vars_fine begun.vars _ (placed_some_fine begun.this s.memory mem)) rest
+      (placed_vars_fine begun.vars (host.placed_some objects program fuel begun.this s.memory) b (placed_some_fine begun.this s.memory b mem)) rest
 
   pub process_fine : (script : Block) (b : Both) → IsAtRest classes p b → Fine (process objects program fuel script) false b
   unfolding process
   process_fine script b rest =
       runs_fine (host.method objects program fuel 63) (method_fine 63) (host.script_begun objects program fuel script) (host.whole objects program fuel (host.script_begun objects program fuel script)) fuel _ _ false b
-      (λ e units s low b mem rest. tt) are.empty rest
+      (λ e units s low b mem rest. tt) (are.empty b rest) rest
 
 pub processes_are_good : ProcessesAreGood
 processes_are_good M classes p IsMemory objects program fuel script b schema are rest = process_fine classes p IsMemory objects program fuel schema are script b rest

@@ -46,6 +46,6 @@ KeptRunsAreSteady =
 
 abbrev pub ProcessesAreGood : Type 1
 ProcessesAreGood =
-    (M : Type 0) (classes : List Class) (p : Pid) (IsMemory : M → Type 0) (objects : Objects M) (program : Program) (fuel : ℕ) (script : Block) (b : Both)
+    (M : Type 0) (classes : List Class) (p : Pid) (IsMemory : M → Both → Type 0) (objects : Objects M) (program : Program) (fuel : ℕ) (script : Block) (b : Both)
     → IsSoundSchema classes → AreGoodObjects classes p IsMemory objects → IsAtRest classes p b
     → IsKeptGood classes (IsSafeChange classes) ShowsLoads p (process objects program fuel script) b
