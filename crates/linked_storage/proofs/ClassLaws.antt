@@ -95,7 +95,7 @@ class_at trees f from (t ∷ ts) (suc i) =
     let e : from + 1 + i ≡ from + suc i = omega arith in
     class_at trees f (from + 1) ts i ∙ ap (λ n. option_map (λ u. class_with trees f n u) (slice_get ts i)) e
 
-long_classes : (trees : List ClassTree) (f : Facts) (from : ℕ) (rest : List ClassTree) → length (classes_from trees f from rest) ≡ length rest
+pub long_classes : (trees : List ClassTree) (f : Facts) (from : ℕ) (rest : List ClassTree) → length (classes_from trees f from rest) ≡ length rest
 long_classes trees f from [] = refl
 long_classes trees f from (t ∷ ts) = ap suc (long_classes trees f (from + 1) ts)
 
@@ -136,10 +136,10 @@ long_map g (x ∷ xs) = ap suc (long_map g xs)
 -- WHAT A CLASS HAS OF THE ONE ABOVE IT
 
 module _ (trees : List ClassTree) (allowed : (i : ℕ) (why : LinkWhy) → i < length trees → Has trees i why → ⊥) where
-  abbrev f : Facts
+  abbrev pub f : Facts
   f = facts_of trees
 
-  not_true : (b : Bool) → (IsTrue b → ⊥) → b ≡ false
+  pub not_true : (b : Bool) → (IsTrue b → ⊥) → b ≡ false
   not_true true h = absurd (h refl)
   not_true false h = refl
 
@@ -201,10 +201,10 @@ module _ (trees : List ClassTree) (allowed : (i : ℕ) (why : LinkWhy) → i < l
           (ap (λ o. list_any (changes_kind trees f (j ∷ ss)) (own_props o)) (sym e) ∙ kinds)
           (ap (option_any (lacks_other_side trees f)) (sym e) ∙ not_true (has_no_inverse trees f i) (allowed i NoInverse small))
 
-  abbrev schema : List Class
+  abbrev pub schema : List Class
   schema = classes_of trees f
 
-  class_is : (i : ℕ) (c : Class) → slice_get schema i ≡ Some c → (t : ClassTree) × (slice_get trees i ≡ Some t) × (class_with trees f i t ≡ c)
+  pub class_is : (i : ℕ) (c : Class) → slice_get schema i ≡ Some c → (t : ClassTree) × (slice_get trees i ≡ Some t) × (class_with trees f i t ≡ c)
   class_is i c h = by (slice_get trees i) refl
     where
       by : (o : Option ClassTree) → slice_get trees i ≡ o → (t : ClassTree) × (slice_get trees i ≡ Some t) × (class_with trees f i t ≡ c)
@@ -232,17 +232,17 @@ module _ (trees : List ClassTree) (allowed : (i : ℕ) (why : LinkWhy) → i < l
 
   -- LINES
 
-  abbrev firsts : List (Option ℕ)
+  abbrev pub firsts : List (Option ℕ)
   firsts = firsts_of (headers_of trees)
 
-  abbrev line : ℕ → ℕ → List Class
+  abbrev pub line : ℕ → ℕ → List Class
   line n i = filter_map (slice_get schema) (reverse (chain n firsts i))
 
   -- a line that ends in the class
-  record IsLineTo (l : List Class) (c : Class) : Type 0 where
-    front : List Class
-    is : l ≡ front ++ c ∷ []
-    good : IsLine l
+  pub record IsLineTo (l : List Class) (c : Class) : Type 0 where
+    pub front : List Class
+    pub is : l ≡ front ++ c ∷ []
+    pub good : IsLine l
 
   behind : (x : Class) (xs : List Class) (a c : Class) → IsExtendedBy x (xs ++ a ∷ []) → Extends a c → IsExtendedBy x ((xs ++ a ∷ []) ++ c ∷ [])
   behind x [] a c h e = (h.0, (e, tt))
@@ -267,7 +267,7 @@ module _ (trees : List ClassTree) (allowed : (i : ℕ) (why : LinkWhy) → i < l
   class_there : (i : ℕ) → i < length trees → (c : Class) × (slice_get schema i ≡ Some c)
   class_there i small = get_within schema i (subst (λ n. i < n) (sym (long_classes trees f 0 trees)) small)
 
-  line_to : HasNoWholeType trees → (n i : ℕ) (c : Class) → i < length trees → slice_get schema i ≡ Some c → IsLineTo (line n i) c
+  pub line_to : HasNoWholeType trees → (n i : ℕ) (c : Class) → i < length trees → slice_get schema i ≡ Some c → IsLineTo (line n i) c
   line_to none zero i c small h = subst (λ l. IsLineTo l c) (sym (one_class c i h)) (alone c)
   line_to none (suc n) i c small h = by (get_or firsts i None) refl (λ j d low there. line_to none n j d low there)
     where
@@ -282,7 +282,7 @@ module _ (trees : List ClassTree) (allowed : (i : ℕ) (why : LinkWhy) → i < l
 
   -- NAMES
 
-  last_of : (x : Class) (xs : List Class) (c : Class) → last_props x (xs ++ c ∷ []) ≡ c.props
+  pub last_of : (x : Class) (xs : List Class) (c : Class) → last_props x (xs ++ c ∷ []) ≡ c.props
   last_of x [] c = refl
   last_of x (y ∷ ys) c = last_of y ys c
 
@@ -385,20 +385,20 @@ module _ (trees : List ClassTree) (allowed : (i : ℕ) (why : LinkWhy) → i < l
   named_class None name h = cc
   named_class (Some c) name h = let same : c.name ≡ name = cc in (c, refl, same)
 
-  record IsOfExtent (name extent : ClassName) : Type 0 where
-    place : ℕ
-    small : place < length trees
-    class : Class
-    there : slice_get schema place ≡ Some class
-    stored : is_persistent (sort_in f place) ≡ true
-    line_is : line_of schema name ≡ line (length trees) place
-    found : class_of schema name ≡ Some class
-    named : class.name ≡ name
-    root : Class
-    root_there : slice_get schema (top_of trees place) ≡ Some root
-    root_named : root.name ≡ extent
+  pub record IsOfExtent (name extent : ClassName) : Type 0 where
+    pub place : ℕ
+    pub small : place < length trees
+    pub class : Class
+    pub there : slice_get schema place ≡ Some class
+    pub stored : is_persistent (sort_in f place) ≡ true
+    pub line_is : line_of schema name ≡ line (length trees) place
+    pub found : class_of schema name ≡ Some class
+    pub named : class.name ≡ name
+    pub root : Class
+    pub root_there : slice_get schema (top_of trees place) ≡ Some root
+    pub root_named : root.name ≡ extent
 
-  of_extent : (name extent : ClassName) → extent_of schema name ≡ Some extent → IsOfExtent name extent
+  pub of_extent : (name extent : ClassName) → extent_of schema name ≡ Some extent → IsOfExtent name extent
   unfolding line_of
   of_extent name extent h = by (place_of (class_names schema) name) refl h
     where
@@ -452,7 +452,7 @@ module _ (trees : List ClassTree) (allowed : (i : ℕ) (why : LinkWhy) → i < l
         names = subst (λ l. AreAllDifferent (names_behind l)) (sym p.line_is) (line_names none p.place p.class p.small p.there p.stored);
       }
 
-  top_there : (i : ℕ) → i < length trees → slice_get f.tops i ≡ Some (top_of trees i)
+  pub top_there : (i : ℕ) → i < length trees → slice_get f.tops i ≡ Some (top_of trees i)
   top_there i small = get-count (λ j. top_of trees j) 0 (length trees) i small ∙ (let e : 0 + i ≡ i = omega arith in ap (λ j. Some (top_of trees j)) e)
 
   class_even : (i : ℕ) (c : Class) → i < length trees → slice_get schema i ≡ Some c → is_persistent (sort_in f i) ≡ true → AreEven (Some c)
@@ -509,7 +509,7 @@ module _ (trees : List ClassTree) (allowed : (i : ℕ) (why : LinkWhy) → i < l
       let again = any_before (get_or f.names b []) f.names a b lt (omega (arith, long, lt, small)) (is-same_text (get_or f.names b []) (get_or f.names a []) one) in
       allowed b RepeatedClass small again
 
-  one_place : (a b : ℕ) (c d : Class) → a < length trees → b < length trees → slice_get schema a ≡ Some c → slice_get schema b ≡ Some d → c.name ≡ d.name → a ≡ b
+  pub one_place : (a b : ℕ) (c d : Class) → a < length trees → b < length trees → slice_get schema a ≡ Some c → slice_get schema b ≡ Some d → c.name ≡ d.name → a ≡ b
   one_place a b c d low small here there same = by (before_or a b)
     where
       by : (a < b) ⊎ (a ≡ b) ⊎ (b < a) → a ≡ b
@@ -519,7 +519,7 @@ module _ (trees : List ClassTree) (allowed : (i : ℕ) (why : LinkWhy) → i < l
 
   -- ENTRIES OF AN EXTENT
 
-  some_at : (test : Class → Bool) (cs : List Class) → list_any test cs ≡ true → (i : ℕ) × (c : Class) × (slice_get cs i ≡ Some c) × (test c ≡ true)
+  pub some_at : (test : Class → Bool) (cs : List Class) → list_any test cs ≡ true → (i : ℕ) × (c : Class) × (slice_get cs i ≡ Some c) × (test c ≡ true)
   some_at test [] h = cc
   some_at test (d ∷ ds) h = by (test d) refl h (some_at test ds)
     where
@@ -527,12 +527,12 @@ module _ (trees : List ClassTree) (allowed : (i : ℕ) (why : LinkWhy) → i < l
       by true e k more = (0, d, refl, e)
       by false e k more = let p = more k in (suc p.0, p.1, p.2, p.3)
 
-  slice_within : (cs : List Class) (i : ℕ) (c : Class) → slice_get cs i ≡ Some c → i < length cs
+  pub slice_within : (cs : List Class) (i : ℕ) (c : Class) → slice_get cs i ≡ Some c → i < length cs
   slice_within [] i c h = cc
   slice_within (d ∷ ds) zero c h = omega arith
   slice_within (d ∷ ds) (suc i) c h = let less = slice_within ds i c h in omega (arith, less)
 
-  in_extent : (extent : ClassName) (o : Option ClassName) → is_extent extent o ≡ true → o ≡ Some extent
+  pub in_extent : (extent : ClassName) (o : Option ClassName) → is_extent extent o ≡ true → o ≡ Some extent
   in_extent extent None h = cc
   in_extent extent (Some root) h = let text = same_text-is root.0 extent.0 h in λ i. Some (record { 0 = text i })
 

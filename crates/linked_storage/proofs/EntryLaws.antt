@@ -27,13 +27,13 @@ use Rattle.class_meaning.specs.Meaning.{single_kind, item_of, side_with, side_ki
 use Rattle.storage_map.specs.Worlds.{is_side_named, has_entries}
 use Rattle.linked_storage.proofs.KindLaws.{and_first, and_second, or_first, or_second}
 
-one_spot : (a b : Spot) → same_spot a b ≡ true → a ≡ b
+pub one_spot : (a b : Spot) → same_spot a b ≡ true → a ≡ b
 one_spot a b h =
     let c : a.class ≡ b.class = eqb-true a.class b.class (and_first (nat_eq a.class b.class) (nat_eq a.place b.place) h) in
     let p : a.place ≡ b.place = eqb-true a.place b.place (and_second (nat_eq a.class b.class) (nat_eq a.place b.place) h) in
     λ i. record { class = c i; place = p i }
 
-one_mark : (a b : Bool) → same_mark a b ≡ true → a ≡ b
+pub one_mark : (a b : Bool) → same_mark a b ≡ true → a ≡ b
 one_mark true true h = refl
 one_mark true false h = cc
 one_mark false true h = cc
@@ -46,7 +46,7 @@ one_on (Some a) None h = cc
 one_on (Some a) (Some b) h = ap Some (one_spot a b h)
 
 -- three tests, however they are bracketed
-three : (p q r : Bool) → (p && q && r) ≡ true → (p ≡ true) × (q ≡ true) × (r ≡ true)
+pub three : (p q r : Bool) → (p && q && r) ≡ true → (p ≡ true) × (q ≡ true) × (r ≡ true)
 three true true true h = (refl, refl, refl)
 three true true false h = cc
 three true false r h = cc
@@ -66,12 +66,12 @@ abbrev pub IsHeld : Entry → List Entry → Type 0
 IsHeld e [] = ⊥
 IsHeld e (x ∷ xs) = (e ≡ x) ⊎ IsHeld e xs
 
-held_first : (e : Entry) (xs ys : List Entry) → IsHeld e xs → IsHeld e (xs ++ ys)
+pub held_first : (e : Entry) (xs ys : List Entry) → IsHeld e xs → IsHeld e (xs ++ ys)
 held_first e [] ys h = absurd h
 held_first e (x ∷ xs) ys (inl same) = inl same
 held_first e (x ∷ xs) ys (inr h) = inr (held_first e xs ys h)
 
-held_last : (e : Entry) (xs ys : List Entry) → IsHeld e ys → IsHeld e (xs ++ ys)
+pub held_last : (e : Entry) (xs ys : List Entry) → IsHeld e ys → IsHeld e (xs ++ ys)
 held_last e [] ys h = h
 held_last e (x ∷ xs) ys h = inr (held_last e xs ys h)
 
@@ -144,7 +144,7 @@ pub record IsEntryOf (trees : List ClassTree) (entries : List Entry) (name : Lis
   pub counted : count_of trees entry ≡ Some n
   pub lone : (s : Spot) → entry.on ≡ Some s → n ≡ 1
 
-lone_index : (props : List (List ℕ × Spot)) (x : Index) (s : Spot) → alone_on props x ≡ Some s → length x.props ≡ 1
+pub lone_index : (props : List (List ℕ × Spot)) (x : Index) (s : Spot) → alone_on props x ≡ Some s → length x.props ≡ 1
 lone_index props x s h = by x.unique x.props h
   where
     by : (u : Bool) (names : List (List ℕ)) → cond u None (only_on props names) ≡ Some s → length names ≡ 1
@@ -198,7 +198,7 @@ module _ (trees : List ClassTree) where
     no_item name p (it.Ref c) = refl
     no_item name p (it.Serial c) = refl
 
-    one_side : (name : List ℕ) (p : PropTree) (form : Form) (kind : Kind) → kind_by f p.of form ≡ Some kind → is_side_named name (prop_with p kind) kind ≡ true → (is_one_side form ≡ true) × (same_text p.name name ≡ true)
+    pub one_side : (name : List ℕ) (p : PropTree) (form : Form) (kind : Kind) → kind_by f p.of form ≡ Some kind → is_side_named name (prop_with p kind) kind ≡ true → (is_one_side form ≡ true) × (same_text p.name name ≡ true)
     one_side name p Single kind h side = by (item_of f p.of) h
       where
         by : (o : Option Item) → option_map single_kind o ≡ Some kind → (is_one_side Single ≡ true) × (same_text p.name name ≡ true)
@@ -279,7 +279,7 @@ module _ (trees : List ClassTree) where
             let side = side_there name (spots_in (props_in f i)) (and_second (nat_eq n 1) (list_any (is_named name) (props_at (spots_in (props_in f i)))) r) in
             with_first (filter_map (side_entry trees) (spots_in (props_in f i))) (filter_map (index_entry trees f.members) (spots_in (indexes_in f i))) name n (subst (IsEntryOf trees (filter_map (side_entry trees) (spots_in (props_in f i))) name) (sym one) side)
 
-  none_held : (test : Entry → Bool) (e : Entry) (xs : List Entry) → list_any test xs ≡ false → IsHeld e xs → test e ≡ false
+  pub none_held : (test : Entry → Bool) (e : Entry) (xs : List Entry) → list_any test xs ≡ false → IsHeld e xs → test e ≡ false
   none_held test e [] h held = absurd held
   none_held test e (x ∷ xs) h (inl same) = ap test same ∙ or_first (test x) (list_any test xs) h
   none_held test e (x ∷ xs) h (inr held) = none_held test e xs (or_second (test x) (list_any test xs) h) held
