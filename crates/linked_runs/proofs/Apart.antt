@@ -46,16 +46,16 @@ apart_by true false false true h k = inr (inr refl)
 apart_by true false false false h k = absurd (cc k)
 apart_by false a b c h k = absurd (cc h)
 
-no_true : {A : Type 0} (b : Bool) → b ≡ false → b ≡ true → A
+pub no_true : {A : Type 0} (b : Bool) → b ≡ false → b ≡ true → A
 no_true true e g = absurd (cc e)
 no_true false e g = absurd (cc g)
 
 -- entries with different marks are of no one index
-marks_differ : (e g : Entry) → e.is_side ≡ true → g.is_side ≡ false → is_same_index e g ≡ false
+pub marks_differ : (e g : Entry) → e.is_side ≡ true → g.is_side ≡ false → is_same_index e g ≡ false
 marks_differ e g a b = ap (λ x. same_mark x g.is_side && same_spot e.spot g.spot) a ∙ ap (λ x. x && same_spot e.spot g.spot) b
 
 -- no index is a side
-no_side_on : (e g : Entry) → e.is_side ≡ false → is_on_side e g ≡ false
+pub no_side_on : (e g : Entry) → e.is_side ≡ false → is_on_side e g ≡ false
 no_side_on e g a = ap (λ x. x && not g.is_side && option_any (same_spot e.spot) g.on) a
 
 -- what is on nothing alone is on no side
@@ -71,30 +71,30 @@ unique_on_none : (props : List (List ℕ × Spot)) (x : Index) → x.unique ≡ 
 unique_on_none props x u = ap (λ b. cond b None (only_on props x.props)) u
 
 module _ (trees : List ClassTree) (allowed : (i : ℕ) (why : LinkWhy) → i < length trees → refusal.Has trees i why → ⊥) where
-  abbrev facts : Facts
+  abbrev pub facts : Facts
   facts = f trees allowed
 
-  abbrev classes : List Class
+  abbrev pub classes : List Class
   classes = schema trees allowed
 
   -- a class of an extent, at its place
-  record IsIn (extent : ClassName) (c : Class) : Type 0 where
-    place : ℕ
-    small : place < length trees
-    tree : ClassTree
-    is : class_with trees facts place tree ≡ c
-    stored : is_persistent (sort_in facts place) ≡ true
-    root : Class
-    root_there : slice_get classes (top_of trees place) ≡ Some root
-    root_named : root.name ≡ extent
+  pub record IsIn (extent : ClassName) (c : Class) : Type 0 where
+    pub place : ℕ
+    pub small : place < length trees
+    pub tree : ClassTree
+    pub is : class_with trees facts place tree ≡ c
+    pub stored : is_persistent (sort_in facts place) ≡ true
+    pub root : Class
+    pub root_there : slice_get classes (top_of trees place) ≡ Some root
+    pub root_named : root.name ≡ extent
 
-  by_name : (name extent : ClassName) → extent_of classes name ≡ Some extent → (c : Class) × (class_of classes name ≡ Some c) × IsIn extent c
+  pub by_name : (name extent : ClassName) → extent_of classes name ≡ Some extent → (c : Class) × (class_of classes name ≡ Some c) × IsIn extent c
   by_name name extent h =
       let p = of_extent trees allowed name extent h in
       let t = class_is trees allowed p.place p.class p.there in
       (p.class, p.found, record { place = p.place; small = p.small; tree = t.0; is = t.2; stored = p.stored; root = p.root; root_there = p.root_there; root_named = p.root_named })
 
-  by_test : (extent : ClassName) (test : Class → Bool) → list_any (λ c. is_extent extent (extent_of classes c.name) && test c) classes ≡ true → (c : Class) × (test c ≡ true) × IsIn extent c
+  pub by_test : (extent : ClassName) (test : Class → Bool) → list_any (λ c. is_extent extent (extent_of classes c.name) && test c) classes ≡ true → (c : Class) × (test c ≡ true) × IsIn extent c
   by_test extent test h =
       let p = some_at trees allowed (λ c. is_extent extent (extent_of classes c.name) && test c) classes h in
       let in' = in_extent trees allowed extent (extent_of classes p.1.name) (and_first (is_extent extent (extent_of classes p.1.name)) (test p.1) p.3) in
@@ -117,7 +117,7 @@ module _ (trees : List ClassTree) (allowed : (i : ℕ) (why : LinkWhy) → i < l
       )
 
   -- two entries of one name in an extent
-  fate : (extent : ClassName) (c d : Class) (p : IsIn extent c) (q : IsIn extent d) (e g : Entry) (name : List ℕ) → IsHeld e (entries_in trees facts p.place) → IsHeld g (entries_in trees facts q.place)
+  pub fate : (extent : ClassName) (c d : Class) (p : IsIn extent c) (q : IsIn extent d) (e g : Entry) (name : List ℕ) → IsHeld e (entries_in trees facts p.place) → IsHeld g (entries_in trees facts q.place)
       → entry_name trees e ≡ Some name → entry_name trees g ≡ Some name → (is_same_index e g ≡ true) ⊎ (is_on_side e g ≡ true) ⊎ (is_on_side g e ≡ true)
   fate extent c d p q e g name first second named also =
       let root = top_of trees p.place in
@@ -139,18 +139,19 @@ module _ (trees : List ClassTree) (allowed : (i : ℕ) (why : LinkWhy) → i < l
       apart_by (same_word (entry_name trees e) (entry_name trees g)) (is_same_index e g) (is_on_side e g) (is_on_side g e) names
       (none_held trees (clashes trees e) g ds (none_held trees (λ x. list_any (clashes trees x) ds) e es clash first) held)
 
-  index_named : (e : Entry) (x : Index) → e.is_side ≡ false → index_at trees e.spot ≡ Some x → entry_name trees e ≡ Some x.name
+  pub index_named : (e : Entry) (x : Index) → e.is_side ≡ false → index_at trees e.spot ≡ Some x → entry_name trees e ≡ Some x.name
   index_named e x no_side at = ap (λ b. cond b (option_map (λ (p : PropTree). p.name) (prop_at trees e.spot)) (option_map (λ (y : Index). y.name) (index_at trees e.spot))) no_side ∙ ap (option_map (λ (y : Index). y.name)) at
 
-  side_named : (e : Entry) (p : PropTree) → e.is_side ≡ true → prop_at trees e.spot ≡ Some p → entry_name trees e ≡ Some p.name
+  pub side_named : (e : Entry) (p : PropTree) → e.is_side ≡ true → prop_at trees e.spot ≡ Some p → entry_name trees e ≡ Some p.name
   side_named e p side at = ap (λ b. cond b (option_map (λ (q : PropTree). q.name) (prop_at trees e.spot)) (option_map (λ (y : Index). y.name) (index_at trees e.spot))) side ∙ ap (option_map (λ (q : PropTree). q.name)) at
 
   -- the entry of an index of a class
-  index_of : (extent : ClassName) (c : Class) (p : IsIn extent c) (x : Index) → Has x c.indexes → IsIndexEntry trees facts.members x (entries_in trees facts p.place)
+  pub index_of : (extent : ClassName) (c : Class) (p : IsIn extent c) (x : Index) → Has x c.indexes → IsIndexEntry trees facts.members x (spots_in (indexes_in facts p.place)) (entries_in trees facts p.place)
   index_of extent c p x h =
       let r = index_held trees facts.members x (spots_in (indexes_in facts p.place)) (subst (λ (d : Class). Has x d.indexes) (sym p.is) h) in
       record {
         entry = r.entry;
+        among = r.among;
         held = held_last r.entry (filter_map (side_entry trees) (spots_in (props_in facts p.place))) (filter_map (index_entry trees facts.members) (spots_in (indexes_in facts p.place))) r.held;
         no_side = r.no_side;
         at = r.at;
@@ -158,7 +159,7 @@ module _ (trees : List ClassTree) (allowed : (i : ℕ) (why : LinkWhy) → i < l
       }
 
   -- the entry of a one side of a class
-  side_of : (extent : ClassName) (c : Class) (p : IsIn extent c) (q : Prop) (target : ClassName) (inverse : List ℕ) → q.kind ≡ kind.One target inverse → Has q c.props → IsSideEntry trees facts q (entries_in trees facts p.place)
+  pub side_of : (extent : ClassName) (c : Class) (p : IsIn extent c) (q : Prop) (target : ClassName) (inverse : List ℕ) → q.kind ≡ kind.One target inverse → Has q c.props → IsSideEntry trees facts q (entries_in trees facts p.place)
   side_of extent c p q target inverse is h =
       let r = side_held trees facts q target inverse (spots_in (props_in facts p.place)) is (subst (λ (d : Class). Has q d.props) (sym p.is) h) in
       record {
@@ -169,6 +170,8 @@ module _ (trees : List ClassTree) (allowed : (i : ℕ) (why : LinkWhy) → i < l
         tree = r.tree;
         at = r.at;
         named = r.named;
+        one = r.one;
+        kind = r.kind;
       }
 
   -- a unique index of that name in the extent
@@ -181,7 +184,7 @@ module _ (trees : List ClassTree) (allowed : (i : ℕ) (why : LinkWhy) → i < l
       let x = any_has (λ (i : Index). i.unique && same_text i.name name) c.0.indexes c.1 in
       (c.0, x.0, x.1, and_first x.0.unique (same_text x.0.name name) x.2, same_text-is x.0.name name (and_second x.0.unique (same_text x.0.name name) x.2), c.2)
 
-  false_by : (b : Bool) → (b ≡ true → ⊥) → b ≡ false
+  pub false_by : (b : Bool) → (b ≡ true → ⊥) → b ≡ false
   false_by true h = absurd (h refl)
   false_by false h = refl
 

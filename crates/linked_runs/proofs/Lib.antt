@@ -1,2 +1,5 @@
 pub mod Found
 pub mod Apart
+pub mod Origins
+pub mod OnSide
+pub mod Storable

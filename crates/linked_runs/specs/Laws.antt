@@ -1,5 +1,5 @@
 -- What linking gives for runs.
-use Rattle.std.specs.Prelude.{◌≡◌, ℕ, false, List, Some}
+use Rattle.std.specs.Prelude.{◌≡◌, ◌⊎◌, ℕ, false, List, Some}
 use Rattle.obj_kinds.specs.declared.name.ClassName.{ClassName}
 use Rattle.schema_kinds.specs.declared.class.Class.{Class}
 use Rattle.schema_kinds.specs.declared.class.Index.{Index}
@@ -12,7 +12,8 @@ use Rattle.record_layout.specs.Layout.{layout_of}
 use Rattle.record_layout.specs.Shapes.{forms_of}
 use Rattle.storage_map.specs.Entries.{indexes_of, props_in}
 use Rattle.object_runs.specs.Causes.{Has}
-use Rattle.object_runs.specs.Invariant.{is_unique_name}
+use Rattle.object_runs.specs.Invariant.{is_unique_name, is_side_name}
+use Rattle.call_rules.specs.Schemas.{IsOnSide, IsStorableSchema}
 use Rattle.linked_storage.specs.Linked.{HasNoWholeType}
 
 -- the fields of a record are those of the class's own properties
@@ -32,3 +33,13 @@ abbrev pub LinkedIndexesAreApart : Type 0
 LinkedIndexesAreApart =
     (trees : List ClassTree) (schema : List Class) (class extent : ClassName) (i : Index) → IsLinked trees schema → extent_of schema class ≡ Some extent
     → Has i (indexes_of (class_of schema class)) → i.unique ≡ false → is_unique_name schema extent i.name ≡ false
+
+-- an index that isn't unique has the name of no one side of the extent, or is on that side alone
+abbrev pub LinkedIndexesAreOnSides : Type 0
+LinkedIndexesAreOnSides =
+    (trees : List ClassTree) (schema : List Class) (class extent : ClassName) (i : Index) → IsLinked trees schema → HasNoWholeType trees → extent_of schema class ≡ Some extent
+    → Has i (indexes_of (class_of schema class)) → i.unique ≡ false → (is_side_name schema extent i.name ≡ false) ⊎ IsOnSide schema class i
+
+-- all that is asked of a schema whose objects are stored in runs
+abbrev pub LinkedIsStorableSchema : Type 0
+LinkedIsStorableSchema = (trees : List ClassTree) (schema : List Class) → IsLinked trees schema → HasNoWholeType trees → IsStorableSchema schema

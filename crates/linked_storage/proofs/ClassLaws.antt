@@ -57,7 +57,7 @@ use Rattle.std.proofs.lemmas.Bool.{eq-eqb}
 
 -- FIRST SUPERCLASSES
 
-first_link : (names : List (List ℕ)) (hs : List Header) (i j : ℕ) → get_or (map (λ h. first_place names h.supers) hs) i None ≡ Some j → (ss : List ℕ) × (get_or (map (λ h. super_places names h.supers) hs) i [] ≡ j ∷ ss)
+pub first_link : (names : List (List ℕ)) (hs : List Header) (i j : ℕ) → get_or (map (λ h. first_place names h.supers) hs) i None ≡ Some j → (ss : List ℕ) × (get_or (map (λ h. super_places names h.supers) hs) i [] ≡ j ∷ ss)
 first_link names [] i j h = cc
 first_link names (d ∷ ds) zero j h = by d.supers h
   where
@@ -66,7 +66,7 @@ first_link names (d ∷ ds) zero j h = by d.supers h
     by (s ∷ ss) k = (later_places names ss, ap (λ o. option_to_list o ++ later_places names ss) k)
 first_link names (d ∷ ds) (suc i) j h = first_link names ds i j h
 
-get_within : {A : Type 0} (xs : List A) (i : ℕ) → i < length xs → (x : A) × (slice_get xs i ≡ Some x)
+pub get_within : {A : Type 0} (xs : List A) (i : ℕ) → i < length xs → (x : A) × (slice_get xs i ≡ Some x)
 get_within [] i lt = absurd (omega (arith, lt))
 get_within (x ∷ xs) zero lt = (x, refl)
 get_within (x ∷ xs) (suc i) lt = get_within xs i (omega (arith, lt))
@@ -106,11 +106,10 @@ short_same trees f from (t ∷ ts) (suc i) = short_same trees f (from + 1) ts i
 
 -- KINDS OF PROPERTIES
 
-kind_at : List ClassTree → Facts → Spot → Option Kind
+abbrev pub kind_at : List ClassTree → Facts → Spot → Option Kind
 kind_at trees f s = option_and_then (λ (p : PropTree). kind_by f p.of p.form) (prop_at trees s)
 
 kinds_of : (trees : List ClassTree) (f : Facts) (spots : List Spot) → map (λ (p : Prop). p.kind) (filter_map (λ s. option_and_then (prop_of f) (prop_at trees s)) spots) ≡ filter_map (kind_at trees f) spots
-unfolding kind_at
 kinds_of trees f [] = refl
 kinds_of trees f (s ∷ ss) = by (prop_at trees s) (kinds_of trees f ss)
   where
@@ -143,19 +142,18 @@ module _ (trees : List ClassTree) (allowed : (i : ℕ) (why : LinkWhy) → i < l
   not_true true h = absurd (h refl)
   not_true false h = refl
 
-  props_are : (j : ℕ) → j < length trees → props_in f j ≡ (members_of trees j).props
+  pub props_are : (j : ℕ) → j < length trees → props_in f j ≡ (members_of trees j).props
   props_are j small = ap prop_pairs (get-count (λ i. members_of trees i) 0 (length trees) j small) ∙ (let e : 0 + j ≡ j = omega arith in ap (λ i. (members_of trees i).props) e)
 
-  super_small : (i s : ℕ) → IsIn s (row (super_links trees) i) → s < length trees
+  pub super_small : (i s : ℕ) → IsIn s (row (super_links trees) i) → s < length trees
   super_small i s into = subst (λ n. s < n) (length-links trees) (at_within (super_links trees) (length (super_links trees)) i s (super-within trees) into)
 
-  members_are : (i : ℕ) → i < length trees → members_of trees i ≡ members_with trees i (map (λ s. members_of trees s) (row (super_links trees) i))
+  pub members_are : (i : ℕ) → i < length trees → members_of trees i ≡ members_with trees i (map (λ s. members_of trees s) (row (super_links trees) i))
   members_are i small = members-step trees i (climbs_no_further (super_links trees) (length trees) super_small (λ a low ring. allowed a SuperRing low ring) i small)
 
   -- a property that is declared again has the kind of the inherited one
   own_keeps : HasNoWholeType trees → (i j : ℕ) (ss : List ℕ) (tree : ClassTree) → j < length trees → slice_get trees i ≡ Some tree → (done ps : List PropTree) (at : ℕ) → tree.props ≡ done ++ ps → at ≡ length done
       → list_any (changes_kind trees f (j ∷ ss)) ps ≡ false → list_any (λ p. lacks_inverse trees f tree.name p.name p.of p.form) ps ≡ false → Keeps (kind_at trees f) (members_of trees j).props (prop_spots i at ps)
-  unfolding kind_at
   own_keeps none i j ss tree small there done [] at is place kinds sides = tt
   own_keeps none i j ss tree small there done (p ∷ ps) at is place kinds sides = (
     λ s found. of_spot s found (prop_at trees s) refl,
@@ -181,7 +179,7 @@ module _ (trees : List ClassTree) (allowed : (i : ℕ) (why : LinkWhy) → i < l
           ap (option_any (λ r. not (same_kind p r))) (sym e ∙ ap (option_and_then (prop_at trees)) (sym inherited)) ∙ or_first (changes_kind trees f (j ∷ ss) p) (list_any (changes_kind trees f (j ∷ ss)) ps) kinds in
           ap (option_and_then (λ (r : PropTree). kind_by f r.of r.form)) own ∙ kind_same f p q (turned (same_kind p q) tested) side ∙ ap (option_and_then (λ (r : PropTree). kind_by f r.of r.form)) (sym e)
 
-  begins_with_first : HasNoWholeType trees → (i j : ℕ) (ss : List ℕ) → i < length trees → j < length trees → row (super_links trees) i ≡ j ∷ ss → Begins (kind_at trees f) (members_of trees j).props (members_of trees i).props
+  pub begins_with_first : HasNoWholeType trees → (i j : ℕ) (ss : List ℕ) → i < length trees → j < length trees → row (super_links trees) i ≡ j ∷ ss → Begins (kind_at trees f) (members_of trees j).props (members_of trees i).props
   begins_with_first none i j ss small low links =
       subst (λ m. Begins (kind_at trees f) (members_of trees j).props m) (sym (ap (λ (m : Members). m.props) (members_are i small ∙ ap (λ l. members_with trees i (map (λ s. members_of trees s) l)) links)))
       (begins_puts (kind_at trees f) (members_of trees j).props (inherited_props (members_of trees j ∷ map (λ s. members_of trees s) ss)) (prop_spots i 0 (own_props (slice_get trees i))) begun (kept (slice_get trees i) refl))
@@ -258,13 +256,13 @@ module _ (trees : List ClassTree) (allowed : (i : ℕ) (why : LinkWhy) → i < l
   with_class : (l : List Class) (a c : Class) → IsLineTo l a → Extends a c → IsLineTo (l ++ c ∷ []) c
   with_class l a c p e = record { front = l; is = refl; good = subst (λ (m : List Class). IsLine (m ++ c ∷ [])) (sym p.is) (longer p.front a c (subst IsLine p.is p.good) e) }
 
-  first_small : (i j : ℕ) → get_or firsts i None ≡ Some j → j < length trees
+  pub first_small : (i j : ℕ) → get_or firsts i None ≡ Some j → j < length trees
   first_small i j h = let l = first_link (names_of (headers_of trees)) (headers_of trees) i j h in super_small i j (subst (IsIn j) (sym l.1) (inl refl))
 
   one_class : (c : Class) (i : ℕ) → slice_get schema i ≡ Some c → filter_map (slice_get schema) (i ∷ []) ≡ c ∷ []
   one_class c i h = ap (λ o. cons_option o []) h
 
-  class_there : (i : ℕ) → i < length trees → (c : Class) × (slice_get schema i ≡ Some c)
+  pub class_there : (i : ℕ) → i < length trees → (c : Class) × (slice_get schema i ≡ Some c)
   class_there i small = get_within schema i (subst (λ n. i < n) (sym (long_classes trees f 0 trees)) small)
 
   pub line_to : HasNoWholeType trees → (n i : ℕ) (c : Class) → i < length trees → slice_get schema i ≡ Some c → IsLineTo (line n i) c

@@ -21,7 +21,7 @@ Pairs = List (List ℕ × Spot)
 -- NAMES
 
 -- a test of texts that fails one way fails the other way
-turned_apart : (a b : List ℕ) → same_text a b ≡ false → same_text b a ≡ false
+pub turned_apart : (a b : List ℕ) → same_text a b ≡ false → same_text b a ≡ false
 turned_apart a b h = by (same_text b a) refl
   where
     by : (t : Bool) → same_text b a ≡ t → t ≡ false
