@@ -3,3 +3,4 @@ pub mod Apart
 pub mod Origins
 pub mod OnSide
 pub mod Storable
+pub mod Paired

@@ -93,13 +93,13 @@ has_begun k (z ∷ xs) [] x b h = absurd b
 has_begun k (z ∷ xs) (y ∷ ys) x b (inl e) = (y, inl refl, ap (λ (w : Pair). w.0) e ∙ b.0, ap (λ (w : Pair). k w.1) e ∙ b.1)
 has_begun k (z ∷ xs) (y ∷ ys) x b (inr h) = let r = has_begun k xs ys x b.2 h in (r.0, inr r.1, r.2, r.3)
 
-small_at : {A : Type 0} (xs : List A) (i : ℕ) (x : A) → slice_get xs i ≡ Some x → i < length xs
+pub small_at : {A : Type 0} (xs : List A) (i : ℕ) (x : A) → slice_get xs i ≡ Some x → i < length xs
 small_at [] i x h = absurd (cc h)
 small_at (y ∷ ys) zero x h = omega arith
 small_at (y ∷ ys) (suc i) x h = let less = small_at ys i x h in omega (arith, less)
 
 module _ (trees : List ClassTree) (allowed : (i : ℕ) (why : LinkWhy) → i < length trees → refusal.Has trees i why → ⊥) where
-  abbrev g : Facts
+  abbrev pub g : Facts
   g = facts trees allowed
 
   -- ---- a pair has the name of what it declares
@@ -120,7 +120,7 @@ module _ (trees : List ClassTree) (allowed : (i : ℕ) (why : LinkWhy) → i < l
       let is : Has x (put_spots (inherited_props ms) (prop_spots i 0 (own_props (slice_get trees i)))) = subst (λ (m : Members). Has x m.props) (members_are trees allowed i small) h in
       ⊎_elim
       (λ up. ⊎_elim (λ no_one. absurd no_one) (λ one. let t = one_has_at (λ m. m.props) x trees (row (super_links trees) i) one in
-          named_by x k t.0 (super_small trees allowed i t.0 t.1) (none_climbs (super_links trees) k t.0 (row (super_links trees) i) none t.1) t.2) (from_props x [] ms up))
+      named_by x k t.0 (super_small trees allowed i t.0 t.1) (none_climbs (super_links trees) k t.0 (row (super_links trees) i) none t.1) t.2) (from_props x [] ms up))
       (λ own. by (slice_get trees i) refl own)
       (has_put x (inherited_props ms) (prop_spots i 0 (own_props (slice_get trees i))) is)
     where
@@ -143,7 +143,7 @@ module _ (trees : List ClassTree) (allowed : (i : ℕ) (why : LinkWhy) → i < l
       by true e n = refl
       by false e n = absurd (cc n)
 
-  any_at : (test : PropTree → Bool) (s : Spot) (q : PropTree) (ss : List Spot) → list_any (λ t. option_any test (prop_at trees t)) ss ≡ false → Has s ss → prop_at trees s ≡ Some q → test q ≡ false
+  pub any_at : (test : PropTree → Bool) (s : Spot) (q : PropTree) (ss : List Spot) → list_any (λ t. option_any test (prop_at trees t)) ss ≡ false → Has s ss → prop_at trees s ≡ Some q → test q ≡ false
   any_at test s q [] h has at = absurd has
   any_at test s q (t ∷ ts) h (inl e) at = sym (ap (λ u. option_any test (prop_at trees u)) (sym e) ∙ ap (option_any test) at) ∙ or_first (option_any test (prop_at trees t)) (list_any (λ u. option_any test (prop_at trees u)) ts) h
   any_at test s q (t ∷ ts) h (inr has) at = any_at test s q ts (or_second (option_any test (prop_at trees t)) (list_any (λ u. option_any test (prop_at trees u)) ts) h) has at
@@ -153,7 +153,7 @@ module _ (trees : List ClassTree) (allowed : (i : ℕ) (why : LinkWhy) → i < l
       relation_stored (sort_in g i) q.of q.form one
       (any_at (bad_type g (sort_in g i)) s q (spots_in (props_in g i)) (not_true trees allowed (has_bad_type trees g i (props_in g i)) (allowed i BadType small)) has at)
 
-  heir_from : HasNoWholeType trees → (m : Members → Pairs) (x : Pair) (k i : ℕ) → i < length trees → IsFromIn m trees x k i → is_persistent (sort_in g x.1.class) ≡ true → IsHeir trees allowed x.1.class i
+  pub heir_from : HasNoWholeType trees → (m : Members → Pairs) (x : Pair) (k i : ℕ) → i < length trees → IsFromIn m trees x k i → is_persistent (sort_in g x.1.class) ≡ true → IsHeir trees allowed x.1.class i
   heir_from none m x zero i small h stored = subst (IsHeir trees allowed x.1.class) h.0 (heir_itself trees allowed x.1.class stored)
   heir_from none m x (suc k) i small h stored =
       heir_up trees allowed none x.1.class i h.0 small h.1 (heir_from none m x k h.0 (super_small trees allowed i h.0 h.1) h.2 stored)
@@ -179,10 +179,10 @@ module _ (trees : List ClassTree) (allowed : (i : ℕ) (why : LinkWhy) → i < l
       by None e k = absurd (cc k)
       by (Some t) e k = (t, e)
 
-  one_kind : (a b : Kind) → Some a ≡ Some b → a ≡ b
+  pub one_kind : (a b : Kind) → Some a ≡ Some b → a ≡ b
   one_kind a b e = cc e
 
-  one_tree : (a b : PropTree) → Some a ≡ Some b → a ≡ b
+  pub one_tree : (a b : PropTree) → Some a ≡ Some b → a ≡ b
   one_tree a b e = cc e
 
   side_by_test : (name : List ℕ) (p : Prop) (k : Kind) → is_side_named name p k ≡ true → (target : ClassName) × (inverse : List ℕ) × (k ≡ kind.One target inverse) × (p.name ≡ name)

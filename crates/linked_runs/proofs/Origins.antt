@@ -160,7 +160,7 @@ module _ (trees : List ClassTree) (allowed : (i : ℕ) (why : LinkWhy) → i < l
       let is : Has x (put_spots (inherited_props ms) (prop_spots i 0 (own_props (slice_get trees i)))) = subst (λ (m : Members). Has x m.props) (members_are trees allowed i small) h in
       ⊎_elim
       (λ up. ⊎_elim (λ no_one. absurd no_one) (λ one. let t = one_has_at (λ m. m.props) x trees (row links i) one in
-          up_from (λ m. m.props) x i (t.0, t.1, prop_from_by x k t.0 (super_small trees allowed i t.0 t.1) (none_climbs links k t.0 (row links i) none t.1) t.2)) (from_props x [] ms up))
+      up_from (λ m. m.props) x i (t.0, t.1, prop_from_by x k t.0 (super_small trees allowed i t.0 t.1) (none_climbs links k t.0 (row links i) none t.1) t.2)) (from_props x [] ms up))
       (λ own. (0, (own_props_at x i 0 (own_props (slice_get trees i)) own, h)))
       (has_put x (inherited_props ms) (prop_spots i 0 (own_props (slice_get trees i))) is)
 
@@ -175,7 +175,7 @@ module _ (trees : List ClassTree) (allowed : (i : ℕ) (why : LinkWhy) → i < l
       let is : Has x (inherited_indexes ms ++ index_spots i 0 (own_indexes (slice_get trees i))) = subst (λ (m : Members). Has x m.indexes) (members_are trees allowed i small) h in
       ⊎_elim
       (λ up. ⊎_elim (λ no_one. absurd no_one) (λ one. let t = one_has_at (λ m. m.indexes) x trees (row links i) one in
-          up_from (λ m. m.indexes) x i (t.0, t.1, index_from_by x k t.0 (super_small trees allowed i t.0 t.1) (none_climbs links k t.0 (row links i) none t.1) t.2)) (from_indexes x [] ms up))
+      up_from (λ m. m.indexes) x i (t.0, t.1, index_from_by x k t.0 (super_small trees allowed i t.0 t.1) (none_climbs links k t.0 (row links i) none t.1) t.2)) (from_indexes x [] ms up))
       (λ own. (0, (own_indexes_at x i 0 (own_indexes (slice_get trees i)) own, h)))
       (has_either x (inherited_indexes ms) (index_spots i 0 (own_indexes (slice_get trees i))) is)
 

@@ -1,6 +1,6 @@
 //! Laws of schemas that were linked.
 
-ghost use Rattle.linked_runs.specs.Laws.{LinkedFormsAreOwn, LinkedSidesAreApart, LinkedIndexesAreApart, LinkedIndexesAreOnSides, LinkedIsStorableSchema};
+ghost use Rattle.linked_runs.specs.Laws.{LinkedFormsAreOwn, LinkedSidesAreApart, LinkedIndexesAreApart, LinkedIndexesAreOnSides, LinkedIsStorableSchema, LinkedIsPaired};
 
 /// In a schema that was linked, the fields of a class's records are those of the class's own properties, as they were gathered.
 pub fn linked_forms_are_own()
@@ -25,4 +25,9 @@ pub fn linked_indexes_are_on_sides()
 /// A schema that was linked is as runs ask of one whose objects are stored.
 pub fn linked_schemas_are_storable()
     ensures { LinkedIsStorableSchema }
+{}
+
+/// In a schema that was linked, each one side has its other side in each class at or below the one that it names.
+pub fn linked_sides_are_paired()
+    ensures { LinkedIsPaired }
 {}

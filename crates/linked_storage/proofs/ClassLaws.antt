@@ -84,7 +84,7 @@ at_within (r ∷ rs) n (suc a) s w into = at_within rs n a s w.1 into
 
 -- CLASSES AND TREES
 
-headers-from : (trees : List ClassTree) (f : Facts) (i : ℕ) (rest : List ClassTree) → classes.headers_of (classes_from trees f i rest) ≡ headers_of rest
+pub headers-from : (trees : List ClassTree) (f : Facts) (i : ℕ) (rest : List ClassTree) → classes.headers_of (classes_from trees f i rest) ≡ headers_of rest
 headers-from trees f i [] = refl
 headers-from trees f i (tree ∷ rest) = ap (λ l. record { name = tree.name; supers = tree.supers } ∷ l) (headers-from trees f (i + 1) rest)
 
@@ -495,7 +495,7 @@ module _ (trees : List ClassTree) (allowed : (i : ℕ) (why : LinkWhy) → i < l
       by true h' = refl
       by false h' = h'
 
-  names_are : class_names schema ≡ f.names
+  pub names_are : class_names schema ≡ f.names
   names_are = ap names_of (headers-from trees f 0 trees)
 
   not_repeated : (a b : ℕ) (c d : Class) → b < length trees → slice_get schema a ≡ Some c → slice_get schema b ≡ Some d → c.name ≡ d.name → a < b → ⊥
