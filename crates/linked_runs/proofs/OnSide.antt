@@ -43,9 +43,9 @@ use Rattle.linked_storage.proofs.EntryLaws.{one_spot, three}
 use Rattle.linked_storage.proofs.MemberLaws.{Pairs, AreDistinct, Begins, members_fit, own_at, next_place}
 use Rattle.linked_storage.proofs.ClassLaws.{kind_at, props_are, super_small, members_are, not_true}
 use Rattle.linked_runs.specs.Laws.{LinkedIndexesAreOnSides}
-use Rattle.linked_runs.proofs.Found.{any_has, IsIndexEntry, IsSideEntry, IsPropOf, prop_held}
-use Rattle.linked_runs.proofs.Apart.{facts, classes, IsIn as IsOfExtentAt, by_name, by_test, fate, index_named, side_named, index_of, side_of, no_true, marks_differ, no_side_on}
-use Rattle.linked_runs.proofs.Origins.{Pair, OneHas, IsFromIn, IsFrom, has_put, from_props, one_has_at, none_climbs, ends_up, index_from, IsHeir, heir_itself, heir_up}
+use Rattle.linked_names.proofs.Found.{any_has, IsIndexEntry, IsSideEntry, IsPropOf, prop_held}
+use Rattle.linked_names.proofs.Apart.{facts, classes, IsIn as IsOfExtentAt, by_name, by_test, fate, index_named, side_named, index_of, side_of, no_true, marks_differ, no_side_on}
+use Rattle.linked_names.proofs.Origins.{indexes_are, Pair, OneHas, IsFromIn, IsFrom, has_put, from_props, one_has_at, none_climbs, ends_up, index_from, IsHeir, heir_itself, heir_up}
 
 -- ---- pairs
 
@@ -158,9 +158,6 @@ module _ (trees : List ClassTree) (allowed : (i : ℕ) (why : LinkWhy) → i < l
   heir_from none m x (suc k) i small h stored =
       heir_up trees allowed none x.1.class i h.0 small h.1 (heir_from none m x k h.0 (super_small trees allowed i h.0 h.1) h.2 stored)
 
-  indexes_are : (j : ℕ) → j < length trees → indexes_in g j ≡ (members_of trees j).indexes
-  indexes_are j small = ap index_pairs (get-count (λ i. members_of trees i) 0 (length trees) j small) ∙ (let e : 0 + j ≡ j = omega arith in ap (λ i. (members_of trees i).indexes) e)
-
   -- ---- what an index is on alone
 
   on_one : (props : Pairs) (names : List (List ℕ)) (s : Spot) → only_on props names ≡ Some s → (n : List ℕ) × (names ≡ n ∷ []) × (spot_of n props ≡ Some s)
@@ -213,7 +210,7 @@ module _ (trees : List ClassTree) (allowed : (i : ℕ) (why : LinkWhy) → i < l
       let spots : Has s (spots_in (props_in g e.spot.class)) = subst (λ xs. Has s (spots_in xs)) (sym (props_are trees allowed e.spot.class low)) (subst (λ t. Has t (spots_in (members_of trees e.spot.class).props)) x.2 (pair_spot x.0 (members_of trees e.spot.class).props x.1)) in
       let stored = side_stored e.spot.class s q low spots there one in
       let own = spot_pair e.spot (indexes_in g a) among in
-      let from = index_from trees allowed own.0 a small (subst (λ xs. Has own.0 xs) (indexes_are a small) own.1) in
+      let from = index_from trees allowed own.0 a small (subst (λ xs. Has own.0 xs) (indexes_are trees allowed a small) own.1) in
       let heir = heir_from none (λ m. m.indexes) own.0 from.0 a small from.1 (ap (λ (t : Spot). is_persistent (sort_in g t.class)) own.2 ∙ stored) in
       let begins = subst (λ (t : Spot). Begins (kind_at trees g) (members_of trees t.class).props (members_of trees a).props) own.2 heir.begins in
       let y = has_begun (kind_at trees g) (members_of trees e.spot.class).props (members_of trees a).props x.0 begins x.1 in

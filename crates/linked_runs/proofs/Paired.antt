@@ -49,9 +49,9 @@ use Rattle.linked_storage.proofs.EntryLaws.{three}
 use Rattle.linked_storage.proofs.MemberLaws.{Pairs, turned_apart, Begins, own_at, next_place}
 use Rattle.linked_storage.proofs.ClassLaws.{IsOfExtent, kind_at, props_are, super_small, members_are, not_true, headers-from, long_classes, names_are, class_is, class_there, of_extent, one_place, slice_within}
 use Rattle.linked_runs.specs.Laws.{AreApart, HaveNoRepeats, LinkedIsPaired}
-use Rattle.linked_runs.proofs.Found.{any_has, IsPropOf, prop_held}
-use Rattle.linked_runs.proofs.Apart.{facts, classes}
-use Rattle.linked_runs.proofs.Origins.{Pair, IsFromIn, prop_from, IsHeir, heir_itself, heir_up}
+use Rattle.linked_names.proofs.Found.{any_has, IsPropOf, prop_held}
+use Rattle.linked_names.proofs.Apart.{facts, classes}
+use Rattle.linked_names.proofs.Origins.{Pair, IsFromIn, prop_from, IsHeir, heir_itself, heir_up}
 use Rattle.linked_runs.proofs.OnSide.{spot_pair, pair_spot, has_begun, small_at, g, any_at, side_stored, heir_from, one_kind, one_tree}
 
 -- ---- what a class declares itself stays among its members

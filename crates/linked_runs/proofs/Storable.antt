@@ -2,7 +2,7 @@
 use Rattle.std.proofs.Common.{refl}
 use Rattle.linked_storage.proofs.ClassLaws.{linked_storable, linked_extents_even}
 use Rattle.linked_runs.specs.Laws.{LinkedIsStorableSchema}
-use Rattle.linked_runs.proofs.Apart.{linked_forms_are_own, linked_sides_are_apart, linked_indexes_are_apart}
+use Rattle.linked_names.proofs.Apart.{linked_forms_are_own, linked_sides_are_apart, linked_indexes_are_apart}
 use Rattle.linked_runs.proofs.OnSide.{linked_indexes_are_on_sides}
 
 pub linked_schemas_are_storable : LinkedIsStorableSchema

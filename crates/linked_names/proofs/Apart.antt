@@ -35,8 +35,8 @@ use Rattle.linked_storage.specs.Linked.{HasNoWholeType}
 use Rattle.linked_storage.proofs.KindLaws.{and_first, and_second, or_first}
 use Rattle.linked_storage.proofs.EntryLaws.{IsHeld, held_first, held_last, extent_held, one_spot, three, none_held}
 use Rattle.linked_storage.proofs.ClassLaws.{IsLineTo, IsOfExtent, f, schema, class_is, last_of, line_to, of_extent, top_there, one_place, some_at, slice_within, in_extent, not_true, long_classes}
-use Rattle.linked_runs.specs.Laws.{LinkedFormsAreOwn, LinkedSidesAreApart, LinkedIndexesAreApart}
-use Rattle.linked_runs.proofs.Found.{any_has, IsIndexEntry, index_held, IsSideEntry, side_held}
+use Rattle.linked_names.specs.Laws.{LinkedFormsAreOwn, LinkedSidesAreApart, LinkedIndexesAreApart}
+use Rattle.linked_names.proofs.Found.{any_has, IsIndexEntry, index_held, IsSideEntry, side_held}
 
 -- one of the tests that let two entries have one name holds
 apart_by : (w a b c : Bool) → w ≡ true → (w && not a && not b && not c) ≡ false → (a ≡ true) ⊎ (b ≡ true) ⊎ (c ≡ true)

@@ -19,7 +19,7 @@ use Rattle.class_facts.specs.declared.spots.Spot.{Spot}
 use Rattle.class_facts.specs.declared.members.Members.{Members}
 use Rattle.class_facts.specs.Spots.{spot_of, add_spot, add_spots, put_spot, put_spots, has_spot_of, fresh_spots, gather_spots}
 use Rattle.class_facts.specs.Trees.{headers_of, super_links, top_of, supers_of, own_props, own_indexes, prop_spots, index_spots, inherited_props, inherited_indexes, members_with, members_of, sort_above, sort_of, sort_or_plain}
-use Rattle.class_facts.specs.Facts.{Facts, option_any, is_class_of, sort_in, places_of}
+use Rattle.class_facts.specs.Facts.{Facts, option_any, is_class_of, sort_in, index_pairs, indexes_in, places_of}
 use Rattle.class_facts.proofs.FactLemmas.{get-count}
 use Rattle.class_checks.specs.Reasons.{has_persistent, has_kind_clash, changes_kind}
 use Rattle.class_link.specs.declared.error.LinkWhy.{LinkWhy}
@@ -86,7 +86,7 @@ has_put x acc (o ∷ os) h = ⊎_elim (λ g. one (has_inserted x acc o.0 o.1 g))
     one (inl g) = inl g
     one (inr e) = inr (inl e)
 
-has_filtered : {A : Type 0} (test : A → Bool) (x : A) (xs : List A) → Has x (filter test xs) → Has x xs
+pub has_filtered : {A : Type 0} (test : A → Bool) (x : A) (xs : List A) → Has x (filter test xs) → Has x xs
 has_filtered test x [] h = absurd h
 has_filtered test x (y ∷ ys) h = by (test y) h (has_filtered test x ys)
   where
@@ -104,7 +104,7 @@ pub from_props : (x : Pair) (acc : Pairs) (ms : List Members) → Has x (fold (�
 from_props x acc [] h = inl h
 from_props x acc (m ∷ ms) h = ⊎_elim (λ g. ⊎_elim (λ k. inl k) (λ k. inr (inl k)) (has_added x acc m.props g)) (λ g. inr (inr g)) (from_props x (add_spots acc m.props) ms h)
 
-from_indexes : (x : Pair) (acc : Pairs) (ms : List Members) → Has x (fold (λ spots m. gather_spots spots m.indexes) acc ms) → Has x acc ⊎ OneHas (λ m. m.indexes) x ms
+pub from_indexes : (x : Pair) (acc : Pairs) (ms : List Members) → Has x (fold (λ spots m. gather_spots spots m.indexes) acc ms) → Has x acc ⊎ OneHas (λ m. m.indexes) x ms
 from_indexes x acc [] h = inl h
 from_indexes x acc (m ∷ ms) h =
     ⊎_elim (λ g. ⊎_elim (λ k. inl k) (λ k. inr (inl (has_filtered (λ e. not (has_spot_of e.0 acc)) x m.indexes k))) (has_either x acc (fresh_spots acc m.indexes) g)) (λ g. inr (inr g))
@@ -115,7 +115,7 @@ own_props_at x i k [] h = absurd h
 own_props_at x i k (p ∷ ps) (inl e) = ap (λ (y : Pair). y.1.class) e
 own_props_at x i k (p ∷ ps) (inr h) = own_props_at x i (k + 1) ps h
 
-own_indexes_at : (x : Pair) (i k : ℕ) (xs : List Index) → Has x (index_spots i k xs) → x.1.class ≡ i
+pub own_indexes_at : (x : Pair) (i k : ℕ) (xs : List Index) → Has x (index_spots i k xs) → x.1.class ≡ i
 own_indexes_at x i k [] h = absurd h
 own_indexes_at x i k (p ∷ ps) (inl e) = ap (λ (y : Pair). y.1.class) e
 own_indexes_at x i k (p ∷ ps) (inr h) = own_indexes_at x i (k + 1) ps h
@@ -181,6 +181,9 @@ module _ (trees : List ClassTree) (allowed : (i : ℕ) (why : LinkWhy) → i < l
 
   pub index_from : (x : Pair) (i : ℕ) → i < length trees → Has x (members_of trees i).indexes → IsFrom (λ m. m.indexes) trees x i
   index_from x i small h = index_from_by x (length trees) i small (ends_up i small) h
+
+  pub indexes_are : (j : ℕ) → j < length trees → indexes_in facts j ≡ (members_of trees j).indexes
+  indexes_are j small = ap index_pairs (get-count (λ i. members_of trees i) 0 (length trees) j small) ∙ (let e : 0 + j ≡ j = omega arith in ap (λ i. (members_of trees i).indexes) e)
 
   -- ---- persistent classes above
 

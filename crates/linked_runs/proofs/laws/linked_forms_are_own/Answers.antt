@@ -1,5 +1,0 @@
-use Rattle.linked_runs.proofs.Apart.{linked_forms_are_own}
-use Rattle.linked_runs.proofs.laws.linked_forms_are_own.Goals as goal
-
-pub returns : goal.returns
-returns c = linked_forms_are_own

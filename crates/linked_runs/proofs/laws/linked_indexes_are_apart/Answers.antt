@@ -1,5 +1,0 @@
-use Rattle.linked_runs.proofs.Apart.{linked_indexes_are_apart}
-use Rattle.linked_runs.proofs.laws.linked_indexes_are_apart.Goals as goal
-
-pub returns : goal.returns
-returns c = linked_indexes_are_apart

@@ -1,5 +1,0 @@
-use Rattle.linked_runs.proofs.Apart.{linked_sides_are_apart}
-use Rattle.linked_runs.proofs.laws.linked_sides_are_apart.Goals as goal
-
-pub returns : goal.returns
-returns c = linked_sides_are_apart
