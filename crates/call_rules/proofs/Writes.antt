@@ -87,7 +87,7 @@ played_written s p (op ∷ ops) n h =
     played_written (after s p op) p ops n h.1 ∙ ap (written (all_writes (λ op. op ∷ []) ops) n) (one_write s p op n h.0)
     ∙ sym (written-append (all_writes (λ op. op ∷ []) ops) (op ∷ []) n (get s.globals n))
 
-writes_append : {A : Type 0} (d : A → List Op) (xs ys : List A) (n : Node) (x : Option Value) → written (all_writes d (xs ++ ys)) n x ≡ written (all_writes d ys) n (written (all_writes d xs) n x)
+pub writes_append : {A : Type 0} (d : A → List Op) (xs ys : List A) (n : Node) (x : Option Value) → written (all_writes d (xs ++ ys)) n x ≡ written (all_writes d ys) n (written (all_writes d xs) n x)
 writes_append d [] ys n x = refl
 writes_append d (z ∷ xs) ys n x =
     written-append (all_writes d (xs ++ ys)) (d z) n x ∙ writes_append d xs ys n (written (d z) n x) ∙ ap (written (all_writes d ys) n) (sym (written-append (all_writes d xs) (d z) n x))

@@ -92,7 +92,7 @@ kills_found whole q (e ∷ es) h = by (q e) (kills_found whole q es (λ m g. h m
     by true rest = (h e.0 here, rest)
     by false rest = rest
 
-some_of : (o : Option Value) → is_some o ≡ true → (v : Value) × (o ≡ Some v)
+pub some_of : (o : Option Value) → is_some o ≡ true → (v : Value) × (o ≡ Some v)
 some_of None e = absurd (cc e)
 some_of (Some v) e = (v, refl)
 

@@ -46,13 +46,13 @@ use Rattle.call_rules.proofs.Apart.{IsBelow}
 use Rattle.call_rules.proofs.Owned.{valued_of, has_mapped, any_at, any_has, entry_guard, prop_has}
 use Rattle.call_rules.proofs.Gone.{covers_below}
 
-both : (a b : Bool) → a ≡ true → b ≡ true → (a && b) ≡ true
+pub both : (a b : Bool) → a ≡ true → b ≡ true → (a && b) ≡ true
 both true b e f = f
 both false b e f = absurd (cc e)
 
 -- ---- an entry of a one side stands
 
-has_found : (n : Node) (ns : List Node) → Has n ns → find node_cmp n (valued_empty ns) ≡ Some (value.Str [])
+pub has_found : (n : Node) (ns : List Node) → Has n ns → find node_cmp n (valued_empty ns) ≡ Some (value.Str [])
 has_found n [] h = absurd h
 has_found n (m ∷ ns) (inl same) = ap (λ b. cond b (Some (value.Str [])) (find node_cmp n (valued_empty ns))) (ap (λ k. eq_by_cmp node_cmp n k) (sym same) ∙ ap is_eq (tied_itself node_total n))
 has_found n (m ∷ ns) (inr h) = by (eq_by_cmp node_cmp n m) (has_found n ns h)
@@ -61,7 +61,7 @@ has_found n (m ∷ ns) (inr h) = by (eq_by_cmp node_cmp n m) (has_found n ns h)
     by true e = refl
     by false e = e
 
-mapped_has : {A B : Type 0} (f : A → Option B) (xs : List A) (x : A) (y : B) → Has x xs → f x ≡ Some y → Has y (filter_map f xs)
+pub mapped_has : {A B : Type 0} (f : A → Option B) (xs : List A) (x : A) (y : B) → Has x xs → f x ≡ Some y → Has y (filter_map f xs)
 mapped_has f [] x y h e = absurd h
 mapped_has {A} {B} f (z ∷ xs) x y (inl same) e = by (f z) (ap f (sym same) ∙ e)
   where
@@ -74,11 +74,11 @@ mapped_has {A} {B} f (z ∷ xs) x y (inr h) e = by (f z) (mapped_has f xs x y h 
     by None g = g
     by (Some b) g = inr g
 
-append_has : {A : Type 0} (x : A) (xs ys : List A) → Has x ys → Has x (xs ++ ys)
+pub append_has : {A : Type 0} (x : A) (xs ys : List A) → Has x ys → Has x (xs ++ ys)
 append_has x [] ys h = h
 append_has x (y ∷ xs) ys h = inr (append_has x xs ys h)
 
-side_stands : (classes : List Class) (key : Key) (q : Record) (e : Prop × Field) (n : Node) → Has e (valued_of classes q) → side_entry key e e.0.kind ≡ Some n → get (entries classes key q) n ≡ Some (value.Str [])
+pub side_stands : (classes : List Class) (key : Key) (q : Record) (e : Prop × Field) (n : Node) → Has e (valued_of classes q) → side_entry key e e.0.kind ≡ Some n → get (entries classes key q) n ≡ Some (value.Str [])
 unfolding entries entry_list
 side_stands classes key q e n has is =
     let valued = valued_of classes q in
@@ -86,7 +86,7 @@ side_stands classes key q e n has is =
     get-from_entries node_total (valued_empty (index_entries key indexes valued ++ side_entries key valued)) n
     ∙ has_found n (index_entries key indexes valued ++ side_entries key valued) (append_has n (index_entries key indexes valued) (side_entries key valued) (mapped_has (λ e. side_entry key e e.0.kind) valued e n has is))
 
-shown_some : (classes : List Class) (key : Key) (q : Record) (n : Node) (v : Value) → get (entries classes key q) n ≡ Some v → stands_at classes key n q ≡ None → ⊥
+pub shown_some : (classes : List Class) (key : Key) (q : Record) (n : Node) (v : Value) → get (entries classes key q) n ≡ Some v → stands_at classes key n q ≡ None → ⊥
 unfolding stands_at
 shown_some classes key q n v e none = by (get (rows classes key q) n) (sym (ap (or_value (get (rows classes key q) n)) e) ∙ none)
   where
@@ -109,7 +109,7 @@ side_is e s (kind.One class inverse) is h =
     record { class = class; inverse = inverse; is_one = is; name = ap (λ (x : Side). x.name) (sym same); target = ap (λ (x : Side). x.target) (sym same) }
 side_is e s k is h = absurd (cc h)
 
-target_out : (f : Field-F Field) (id : List ℕ) (c : ClassName) (inverse : List ℕ) → target_in f ≡ Some id → indexed (kind.One c inverse) f ≡ Some (sub_of (id_text id))
+pub target_out : (f : Field-F Field) (id : List ℕ) (c : ClassName) (inverse : List ℕ) → target_in f ≡ Some id → indexed (kind.One c inverse) f ≡ Some (sub_of (id_text id))
 target_out (Field-F.Target (Some j)) id c inverse e = let same : j ≡ id = cc e in ap (λ x. Some (sub_of (id_text x))) same
 target_out (Field-F.Target None) id c inverse e = absurd (cc e)
 target_out (Field-F.Plain x) id c inverse e = absurd (cc e)

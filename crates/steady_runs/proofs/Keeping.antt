@@ -136,7 +136,7 @@ module _ (classes : List Class) where
   pub has_structure : (b : Both) → IsSteady classes b → IsStructured classes b.store b.objects
   has_structure b i = structured classes b.store b.objects i.invariant i.before
 
-  orderly : (b : Both) (p : Pid) (op : Op) (tag : Tag) → IsSteady classes b → IsFit classes (IsSafeChange classes) b p op tag → IsOrderly classes b.store b.objects p op tag
+  pub orderly : (b : Both) (p : Pid) (op : Op) (tag : Tag) → IsSteady classes b → IsFit classes (IsSafeChange classes) b p op tag → IsOrderly classes b.store b.objects p op tag
   orderly b p op tag i fit =
       let k = kept_fit b p op tag fit in
       record {
