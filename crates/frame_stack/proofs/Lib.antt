@@ -1,0 +1,4 @@
+pub mod Agreeing
+pub mod Steady
+pub mod Standing
+pub mod StackLaws
