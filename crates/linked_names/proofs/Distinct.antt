@@ -31,7 +31,7 @@ use Rattle.linked_storage.proofs.MemberLaws.{Pairs, next_place}
 use Rattle.linked_storage.proofs.ClassLaws.{members_are, super_small}
 use Rattle.linked_names.specs.Laws.{LinkedHasApartIndexes}
 use Rattle.linked_names.proofs.Apart.{facts, classes, IsIn as IsOfExtentAt, by_name, fate, index_named, no_true, no_side_on}
-use Rattle.linked_names.proofs.Origins.{Pair, OneHas, IsFromIn, has_either, has_back, from_indexes, has_filtered, one_has_at, none_climbs, ends_up, own_indexes_at, indexes_are, index_from}
+use Rattle.linked_names.proofs.Origins.{Pair, OneHas, IsFromIn, has_either, pair_spot, from_indexes, has_filtered, one_has_at, none_climbs, ends_up, own_indexes_at, indexes_are, index_from}
 
 -- a spot is among those of none of the pairs
 abbrev IsNoSpot : Spot → Pairs → Type 0
@@ -241,13 +241,8 @@ module _ (trees : List ClassTree) (allowed : (i : ℕ) (why : LinkWhy) → i < l
     no_name s x at h [] within apart = tt
     no_name s x at h (y ∷ ys) within apart = by (index_at trees y.1) refl (no_name s x at h ys (λ z k. within z (inr k)) (λ z k e. apart z (inr k) e))
       where
-        spot_among : (z : Pair) (xs : Pairs) → Has z xs → Has z.1 (spots_in xs)
-        spot_among z [] k = absurd k
-        spot_among z (w ∷ ws) (inl e) = inl (ap (λ (v : Pair). v.1) e)
-        spot_among z (w ∷ ws) (inr k) = inr (spot_among z ws k)
-
         of_index : (q : Index) → index_at trees y.1 ≡ Some q → (b : Bool) → IsNoName x.name (filter (λ i. i.unique) (filter_map (index_at trees) (spots_in ys))) → IsNoName x.name (cond b (q ∷ filter (λ i. i.unique) (filter_map (index_at trees) (spots_in ys))) (filter (λ i. i.unique) (filter_map (index_at trees) (spots_in ys))))
-        of_index q e true rest = (names_differ s y.1 x q h (spot_among y (indexes_in fs p.place) (within y (inl refl))) at e (apart y (inl refl)), rest)
+        of_index q e true rest = (names_differ s y.1 x q h (pair_spot y (indexes_in fs p.place) (within y (inl refl))) at e (apart y (inl refl)), rest)
         of_index q e false rest = rest
 
         by : (o : Option Index) → index_at trees y.1 ≡ o → IsNoName x.name (filter (λ i. i.unique) (filter_map (index_at trees) (spots_in ys))) → IsNoName x.name (filter (λ i. i.unique) (cons_option o (filter_map (index_at trees) (spots_in ys))))
@@ -258,14 +253,9 @@ module _ (trees : List ClassTree) (allowed : (i : ℕ) (why : LinkWhy) → i < l
     named_apart [] within apart = tt
     named_apart (x ∷ xs) within apart = by (index_at trees x.1) refl (named_apart xs (λ z k. within z (inr k)) apart.1)
       where
-        spot_among : (z : Pair) (ys : Pairs) → Has z ys → Has z.1 (spots_in ys)
-        spot_among z [] k = absurd k
-        spot_among z (w ∷ ws) (inl e) = inl (ap (λ (v : Pair). v.1) e)
-        spot_among z (w ∷ ws) (inr k) = inr (spot_among z ws k)
-
         of_index : (q : Index) → index_at trees x.1 ≡ Some q → (b : Bool) → AreNamedApart (filter (λ i. i.unique) (filter_map (index_at trees) (spots_in xs)))
             → AreNamedApart (cond b (q ∷ filter (λ i. i.unique) (filter_map (index_at trees) (spots_in xs))) (filter (λ i. i.unique) (filter_map (index_at trees) (spots_in xs))))
-        of_index q e true rest = (no_name x.1 q e (spot_among x (indexes_in fs p.place) (within x (inl refl))) xs (λ z k. within z (inr k)) apart.0, rest)
+        of_index q e true rest = (no_name x.1 q e (pair_spot x (indexes_in fs p.place) (within x (inl refl))) xs (λ z k. within z (inr k)) apart.0, rest)
         of_index q e false rest = rest
 
         by : (o : Option Index) → index_at trees x.1 ≡ o → AreNamedApart (filter (λ i. i.unique) (filter_map (index_at trees) (spots_in xs))) → AreNamedApart (filter (λ i. i.unique) (cons_option o (filter_map (index_at trees) (spots_in xs))))

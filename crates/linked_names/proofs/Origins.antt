@@ -18,7 +18,7 @@ use Rattle.schema_kinds.specs.Classes.{is_persistent}
 use Rattle.class_facts.specs.declared.spots.Spot.{Spot}
 use Rattle.class_facts.specs.declared.members.Members.{Members}
 use Rattle.class_facts.specs.Spots.{spot_of, add_spot, add_spots, put_spot, put_spots, has_spot_of, fresh_spots, gather_spots}
-use Rattle.class_facts.specs.Trees.{headers_of, super_links, top_of, supers_of, own_props, own_indexes, prop_spots, index_spots, inherited_props, inherited_indexes, members_with, members_of, sort_above, sort_of, sort_or_plain}
+use Rattle.class_facts.specs.Trees.{headers_of, super_links, top_of, supers_of, own_props, own_indexes, prop_spots, index_spots, spots_in, inherited_props, inherited_indexes, members_with, members_of, sort_above, sort_of, sort_or_plain}
 use Rattle.class_facts.specs.Facts.{Facts, option_any, is_class_of, sort_in, index_pairs, indexes_in, places_of}
 use Rattle.class_facts.proofs.FactLemmas.{get-count}
 use Rattle.class_checks.specs.Reasons.{has_persistent, has_kind_clash, changes_kind}
@@ -36,15 +36,6 @@ abbrev pub Pair : Type 0
 Pair = List ℕ × Spot
 
 -- ---- members that are put together
-
-pub has_front : {A : Type 0} (x : A) (xs ys : List A) → Has x xs → Has x (xs ++ ys)
-has_front x [] ys h = absurd h
-has_front x (z ∷ xs) ys (inl e) = inl e
-has_front x (z ∷ xs) ys (inr h) = inr (has_front x xs ys h)
-
-pub has_back : {A : Type 0} (x : A) (xs ys : List A) → Has x ys → Has x (xs ++ ys)
-has_back x [] ys h = h
-has_back x (z ∷ xs) ys h = inr (has_back x xs ys h)
 
 pub has_either : {A : Type 0} (x : A) (xs ys : List A) → Has x (xs ++ ys) → Has x xs ⊎ Has x ys
 has_either x [] ys h = inr h
@@ -94,6 +85,12 @@ has_filtered test x (y ∷ ys) h = by (test y) h (has_filtered test x ys)
     by true (inl e) more = inl e
     by true (inr g) more = inr (more g)
     by false g more = inr (more g)
+
+-- the spot of a pair is among the spots
+pub pair_spot : (x : Pair) (xs : Pairs) → Has x xs → Has x.1 (spots_in xs)
+pair_spot x [] h = absurd h
+pair_spot x (y ∷ ys) (inl e) = inl (ap (λ (z : Pair). z.1) e)
+pair_spot x (y ∷ ys) (inr h) = inr (pair_spot x ys h)
 
 -- one of some members has the pair
 abbrev pub OneHas : (Members → Pairs) → Pair → List Members → Type 0

@@ -45,7 +45,7 @@ use Rattle.linked_storage.proofs.ClassLaws.{kind_at, props_are, super_small, mem
 use Rattle.linked_runs.specs.Laws.{LinkedIndexesAreOnSides}
 use Rattle.linked_names.proofs.Found.{any_has, IsIndexEntry, IsSideEntry, IsPropOf, prop_held}
 use Rattle.linked_names.proofs.Apart.{facts, classes, IsIn as IsOfExtentAt, by_name, by_test, fate, index_named, side_named, index_of, side_of, no_true, marks_differ, no_side_on}
-use Rattle.linked_names.proofs.Origins.{indexes_are, Pair, OneHas, IsFromIn, IsFrom, has_put, from_props, one_has_at, none_climbs, ends_up, index_from, IsHeir, heir_itself, heir_up}
+use Rattle.linked_names.proofs.Origins.{indexes_are, pair_spot, Pair, OneHas, IsFromIn, IsFrom, has_put, from_props, one_has_at, none_climbs, ends_up, index_from, IsHeir, heir_itself, heir_up}
 
 -- ---- pairs
 
@@ -53,11 +53,6 @@ pub spot_pair : (s : Spot) (xs : Pairs) → Has s (spots_in xs) → (x : Pair) �
 spot_pair s [] h = absurd h
 spot_pair s (x ∷ xs) (inl e) = (x, inl refl, sym e)
 spot_pair s (x ∷ xs) (inr h) = let r = spot_pair s xs h in (r.0, inr r.1, r.2)
-
-pub pair_spot : (x : Pair) (xs : Pairs) → Has x xs → Has x.1 (spots_in xs)
-pair_spot x [] h = absurd h
-pair_spot x (y ∷ ys) (inl e) = inl (ap (λ (z : Pair). z.1) e)
-pair_spot x (y ∷ ys) (inr h) = inr (pair_spot x ys h)
 
 spot_has : (name : List ℕ) (xs : Pairs) (s : Spot) → spot_of name xs ≡ Some s → (x : Pair) × Has x xs × (x.1 ≡ s) × (name ≡ x.0)
 spot_has name [] s h = absurd (cc h)

@@ -51,8 +51,8 @@ use Rattle.linked_storage.proofs.ClassLaws.{IsOfExtent, kind_at, props_are, supe
 use Rattle.linked_runs.specs.Laws.{AreApart, HaveNoRepeats, LinkedIsPaired}
 use Rattle.linked_names.proofs.Found.{any_has, IsPropOf, prop_held}
 use Rattle.linked_names.proofs.Apart.{facts, classes}
-use Rattle.linked_names.proofs.Origins.{Pair, IsFromIn, prop_from, IsHeir, heir_itself, heir_up}
-use Rattle.linked_runs.proofs.OnSide.{spot_pair, pair_spot, has_begun, small_at, g, any_at, side_stored, heir_from, one_kind, one_tree}
+use Rattle.linked_names.proofs.Origins.{pair_spot, Pair, IsFromIn, prop_from, IsHeir, heir_itself, heir_up}
+use Rattle.linked_runs.proofs.OnSide.{spot_pair, has_begun, small_at, g, any_at, side_stored, heir_from, one_kind, one_tree}
 
 -- ---- what a class declares itself stays among its members
 
