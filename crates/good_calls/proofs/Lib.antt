@@ -1,4 +1,6 @@
 pub mod Idle
+pub mod Cuts
+pub mod Tries
 pub mod Loads
 pub mod Walks
 pub mod Rested

@@ -1,41 +1,41 @@
 -- Loads and raises, at levels 2 to 4: whatever the others do, each operation may come, and a load shows the view.
-use Rattle.std.proofs.Common.{◌≡◌, ◌≢◌, ℕ, zero, suc, ◌+◌, ◌-◌, Bool, true, false, cond, ◌&&◌, ◌||◌, ◌==◌, nat_lt, List, [], ◌∷◌, ◌++◌, Option, Some, None, inr, refl, sym, ap, subst, ◌∙◌, arith}
+use Rattle.std.proofs.Common.{◌≡◌, ◌≢◌, ℕ, zero, suc, ◌+◌, ◌-◌, ◌≤◌, Bool, true, false, cond, ◌&&◌, ◌||◌, ◌==◌, nat_lt, List, [], ◌∷◌, Option, Some, None, inl, inr, refl, sym, ap, subst, ◌∙◌, arith}
 use Rattle.std.proofs.lemmas.Bool.Decides.{nat_tests}
 use Rattle.std.specs.FinMap.{get}
 use Rattle.obj_kinds.specs.declared.name.ClassName.{ClassName}
 use Rattle.obj_kinds.specs.declared.node.Node.{Node}
 use Rattle.obj_kinds.specs.declared.value.Value.{Value}
+use Rattle.obj_kinds.specs.declared.op.Pid.{Pid}
 use Rattle.obj_kinds.specs.declared.op.Op.{Op}
 use Rattle.obj_kinds.specs.declared.op.Op.TheVariants.{Get, Order, Lock, Unlock}
 use Rattle.obj_kinds.specs.declared.op.Mode.{Mode}
 use Rattle.obj_kinds.specs.declared.op.Mode.TheVariants.{Shared, Exclusive}
-use Rattle.obj_kinds.specs.declared.op.Reply.{Reply}
-use Rattle.obj_kinds.specs.declared.op.Reply.TheVariants.{Granted, Held}
+use Rattle.obj_kinds.specs.declared.op.Owner.TheVariants.{Object}
+use Rattle.obj_kinds.specs.declared.op.Keep.TheVariants.{Counted}
+use Rattle.obj_kinds.specs.declared.op.Reply.TheVariants.{Held}
 use Rattle.obj_kinds.specs.declared.cause.Cause.{Cause}
-use Rattle.obj_kinds.specs.declared.cause.Cause.TheVariants.{Busy, NotFound}
-use Rattle.schema_kinds.specs.declared.class.Class.{Class}
+use Rattle.obj_kinds.specs.declared.cause.Cause.TheVariants.{Busy, Damaged, Gone, NotFound, OtherClass}
 use Rattle.schema_kinds.specs.declared.key.Key.{Key}
 use Rattle.schema_kinds.specs.declared.record.Record.{Record}
-use Rattle.schema_kinds.specs.Worlds.{World, Change}
-use Rattle.record_layout.specs.Rows.{data_node, below}
-use Rattle.storage_map.specs.Worlds.{owner, image, IsKeyOf}
-use Rattle.storage_map.specs.SoundWorlds.{IsSoundAt}
-use Rattle.lock_table.specs.Holds.{Holds}
-use Rattle.store_core.specs.Machine.{State, is_live, levels_at, reply, after, turn}
-use Rattle.store_calls.specs.Calls.{Call, Give, Ask, Tell, Cut, Tag, Plain, About, Opening, Loaded, Failed, Tried, Got, Lost, bind, then, on_lock, try_from, try}
-use Rattle.object_calls.specs.Asking.{Does, done, does, when, lock_counted, unlock, timed, timed_from, failing}
-use Rattle.object_calls.specs.Extents.{refuses_other, has_several}
-use Rattle.object_calls.specs.Reading.{value_found, on_row, read}
+use Rattle.record_layout.specs.Rows.{data_node}
+use Rattle.record_reading.specs.Rows.{items_behind}
+use Rattle.storage_map.specs.Markers.{row_class}
+use Rattle.storage_map.specs.Worlds.{owner, IsKeyOf}
+use Rattle.store_core.specs.Machine.{is_live, levels_at, reply, after, turn}
+use Rattle.store_calls.specs.Calls.{Plain, About, Opening, Loaded, Failed, Tried, Got, Lost, bind, on_lock, try_from, try}
+use Rattle.object_calls.specs.Asking.{does, when, lock_counted, unlock, timed_from}
+use Rattle.object_calls.specs.Extents.{is_at_or_below, refuses_other, refuses_none, has_several}
+use Rattle.object_calls.specs.Reading.{value_found, read_as, on_refusal, on_marker, on_row, read}
 use Rattle.object_calls.specs.Loads.{LoadCall, load_mode, about, missing, load_gives, keeps_lock, load_ends, load_read, load_locked, load_by, load, raise_lock, raise_ends, raise}
 use Rattle.object_runs.specs.ObjectMachine.{Own, Desk, desk_at, desk_after, desks_after, view, apply_all}
-use Rattle.object_runs.specs.Causes.{IsAt, Shows}
+use Rattle.object_runs.specs.Causes.{IsAt, Shows, HasTrueCause}
 use Rattle.object_runs.specs.Runs.{Both}
 use Rattle.object_runs.specs.Invariant.{shown, Stands}
 use Rattle.object_runs.proofs.StartLaws.{image_of_key}
 use Rattle.read_laws.specs.Undisturbed.{undisturbed}
 use Rattle.read_laws.specs.Shown.{ShowsAt}
 use Rattle.run_rules.specs.Steps.{WritesNone, MayCome, IsFit, next, Event, step_by, after_all, AreFit}
-use Rattle.run_rules.specs.Good.{AreOthers, Meets}
+use Rattle.run_rules.specs.Good.{AreOthers}
 use Rattle.run_rules.proofs.Changes.{all_alike}
 use Rattle.run_rules.proofs.Stacks.{rest_top}
 use Rattle.run_rules.proofs.Guards.{HasHold, only_holder, hold_stays, holds_counted}
@@ -45,8 +45,9 @@ use Rattle.call_rules.specs.Settings.{Setting}
 use Rattle.call_rules.specs.Schemas.{IsStorableSchema}
 use Rattle.call_rules.proofs.Rules.{Fits, meets_bind, meets_post}
 use Rattle.call_rules.proofs.Looks.{LooksBelow, OnlyLooks, only_row}
-use Rattle.call_rules.proofs.Alike.{replies_alike, read_tells}
 use Rattle.call_rules.proofs.Readings.{row_itself, IsReader, fits_timed}
+use Rattle.good_calls.proofs.Cuts.{read_class, row_tells, row_has_class}
+use Rattle.good_calls.proofs.Tries.{lock_reply, AreRefused, IsLast, busy_true}
 use Rattle.good_calls.proofs.Idle.{IsIdle, same_desk, idle_all, plain_may, plain_next, own_next, later}
 
 module _ (t : Setting) where
@@ -150,147 +151,242 @@ module _ (t : Setting) where
       shows zero b n is h = absurd h
       shows (suc j) b n is h = reads_view b n key is h.idle h.guards ∙ ap (shown t.classes key n) h.sees
 
-  -- ---- the read of a load
+  -- ---- what a load may tell
 
-  -- it found what the view had at its first operation, or failed
-  abbrev pub IsReadBy : Key → Tried (Option Record) × ℕ → Both → Type 0
-  IsReadBy key (Got o, reads) b = Asked key o reads b
-  IsReadBy key (Lost x, reads) b = IsIdle t b
+  -- a load that shows the view may be told, and a failure whose cause is true, where a lock is tried at all
+  pub record MayTellTrue (tries : ℕ) : Type 0 where
+    pub loads : (os : List Own) (back : ℕ) (key : Key) (r : Record) → IsAt os back (Shows key r) → t.truth os (Loaded back key r)
+    pub fails : (os : List Own) (a : About) (back : ℕ) (x : Cause) → (1 ≤ tries → HasTrueCause t.classes tries os a back x) → t.truth os (Failed a back x)
 
-  asked_idle : (key : Key) (o : Option Record) (j : ℕ) (b : Both) → Asked key o j b → IsIdle t b
-  asked_idle key o zero b h = absurd h
-  asked_idle key o (suc j) b h = h.idle
+  -- a failure may be told whatever its cause is, and a load that shows the view
+  pub record MayTell : Type 0 where
+    pub loads : (os : List Own) (back : ℕ) (key : Key) (r : Record) → IsAt os back (Shows key r) → t.truth os (Loaded back key r)
+    pub fails : (os : List Own) (a : About) (back : ℕ) (x : Cause) → t.truth os (Failed a back x)
+
+  pub may_tell_true : (tries : ℕ) → MayTell → MayTellTrue tries
+  may_tell_true tries m = record { loads = m.loads; fails = λ os a back x true_cause. m.fails os a back x }
 
   guards_all : (b : Both) (es : List Event) (key : Key) → AreOthers t.p es → Guards key b → Guards key (after_all b es)
   guards_all b [] key others h = h
   guards_all b (e ∷ es) key others h = guards_all (step_by b e) es key others.1 (hold_stays b.store t.p e.pid e.op (data_node key) others.0 h)
 
-  module _ (schema : IsStorableSchema t.classes) (most : ℕ) where
-    pub meets_read : (key : Key) → IsKeyOf t.classes key → (refuses : ClassName → Option Cause) (b : Both) → IsIdle t b → Guards key b
-        → Fits t (timed (read t.classes key Plain most refuses)) (IsReadBy key) b
-    unfolding read
-    meets_read key real refuses b i h = λ es others fit live.
-        let b' = after_all b es in
-        let i' = idle_all t b es others fit i in
-        let h' = guards_all b es key others h in
-        let w = view b'.objects t.p.0 in
-        let o = get w key in
-        let base : (n : Node) → owner t.classes n ≡ Some key → get b'.store.globals n ≡ shown t.classes key n o = λ n is. reads_view b' n key is i' h' in
-        let row = reply b'.store t.p (Get (data_node key)) in
-        let next' = next b' t.p (Get (data_node key)) Plain in (
-          plain_may t b' (Get (data_node key)) tt (λ e. cc e) i',
-          meets_post t (timed_from 1 (on_row t.classes key Plain most refuses (value_found row)))
-              (λ x b''. (undisturbed (reply b'.store t.p) (on_row t.classes key Plain most refuses (value_found row)) ≡ Some x.0) × Asked key o x.1 b'') (IsReadBy key) next'
-              (λ x b'' m. tells b' i' h' x b'' m.0 m.1)
-              (fits_timed t key real Plain (Asked key o) o (reader key o) b'.store base (on_row t.classes key Plain most refuses (value_found row)) (only_row key Plain t.classes most refuses (value_found row)) 1 next' (loading_first b' key live i' h')),
-        )
-      where
-        tells : (b' : Both) → IsIdle t b' → Guards key b' → (x : Tried (Option Record) × ℕ) (b'' : Both)
-            → undisturbed (reply b'.store t.p) (on_row t.classes key Plain most refuses (value_found (reply b'.store t.p (Get (data_node key))))) ≡ Some x.0
-            → Asked key (get (view b'.objects t.p.0) key) x.1 b'' → IsReadBy key x b''
-        tells b' i' h' (Lost x, j) b'' e m = asked_idle key (get (view b'.objects t.p.0) key) j b'' m
-        tells b' i' h' (Got q, j) b'' e m =
-            let w = view b'.objects t.p.0 in
-            let shows : ShowsAt t.classes b'.store.globals w key = λ n is. reads_view b' n key is i' h' ∙ sym (image_of_key t.classes w n key is) in
-            let same : q ≡ get w key = read_tells t.classes key Plain most refuses b'.store t.p w q schema real (t.sound b' t.p i'.whole) shows e in
-            subst (λ o. Asked key o j b'') (sym same) m
+  -- what the others ask leaves what this process asked
+  pub own_all : (b : Both) (es : List Event) → AreOthers t.p es → (desk_at (after_all b es).objects t.p.0).own ≡ (desk_at b.objects t.p.0).own
+  own_all b [] others = refl
+  own_all b (e ∷ es) others = own_all (step_by b e) es others.1 ∙ ap (λ (d : Desk). d.own) (same_desk t b e others.0)
 
-  -- ---- the load
+  module _ (schema : IsStorableSchema t.classes) (tries most : ℕ) (tells : MayTellTrue tries) where
+    -- the cause is true, where so many operations came after the one that decided
+    abbrev pub HasCause : About → ℕ → Cause → Both → Type 0
+    HasCause a back x b = 1 ≤ tries → HasTrueCause t.classes tries (desk_at b.objects t.p.0).own a back x
 
-  -- a failure may be told, and a load that shows the view
-  pub record MayTell : Type 0 where
-    pub loads : (os : List Own) (back : ℕ) (key : Key) (r : Record) → IsAt os back (Shows key r) → t.truth os (Loaded back key r)
-    pub fails : (os : List Own) (a : About) (back : ℕ) (x : Cause) → t.truth os (Failed a back x)
+    pub cause_all : (a : About) (back : ℕ) (x : Cause) (b : Both) (es : List Event) → AreOthers t.p es → HasCause a back x b → HasCause a back x (after_all b es)
+    cause_all a back x b es others h = subst (λ os. 1 ≤ tries → HasTrueCause t.classes tries os a back x) (sym (own_all b es others)) h
 
-  module _ (schema : IsStorableSchema t.classes) (tries most : ℕ) (tells : MayTell) where
-    -- behind so many further operations
-    abbrev Stays : Key → ℕ → Tried (Option Record) × ℕ → Both → Type 0
-    Stays key more (Got o, zero) b = ⊥
-    Stays key more (Got o, suc j) b = IsIdle t b × IsAt (desk_at b.objects t.p.0).own (j + more) (λ e. (e.op ≡ Get (data_node key)) × (get e.view key ≡ o))
-    Stays key more (Lost x, j) b = IsIdle t b
-
-    one_off : (j : ℕ) → j ≡ suc j - 1
-    one_off j = omega arith
-
-    gives : (l : LoadCall) (more : ℕ) (x : Tried (Option Record) × ℕ) (b : Both) → Stays l.key more x b → Fits t (load_gives t.classes tries most l more x) (λ a b. IsIdle t b) b
-    gives l more (Got o, zero) b h = absurd h
-    gives l more (Got None, suc j) b h = (tells.fails _ _ _ _, h.0)
-    gives l more (Got (Some r), suc j) b h = (subst (λ n. t.truth (desk_at b.objects t.p.0).own (Loaded (n + more) l.key r)) (one_off j) (tells.loads _ _ _ _ h.1), h.0)
-    gives l more (Lost x, j) b h = (tells.fails _ _ _ _, h)
-
-    stays_all : (key : Key) (more : ℕ) (x : Tried (Option Record) × ℕ) (b : Both) (es : List Event) → AreOthers t.p es → AreFit t.classes t.Facts b es → Stays key more x b → Stays key more x (after_all b es)
-    stays_all key more x b [] others fit h = h
-    stays_all key more x b (e ∷ es) others fit h = stays_all key more x (step_by b e) es others.1 fit.1 (one x h)
-      where
-        one : (x : Tried (Option Record) × ℕ) → Stays key more x b → Stays key more x (step_by b e)
-        one (Got o, zero) h = absurd h
-        one (Got o, suc j) h = (
-          idle_all t b (e ∷ []) (others.0, tt) (fit.0, tt) h.0,
-          subst (λ (d : Desk). IsAt d.own (j + more) (λ e. (e.op ≡ Get (data_node key)) × (get e.view key ≡ o))) (sym (same_desk t b e others.0)) h.1,
-        )
-        one (Lost x, j) h = idle_all t b (e ∷ []) (others.0, tt) (fit.0, tt) h
-
-    read_stays : (key : Key) (x : Tried (Option Record) × ℕ) (b : Both) → IsReadBy key x b → Stays key 0 x b
-    read_stays key (Got o, zero) b h = absurd h
-    read_stays key (Got o, suc j) b h = (h.idle, subst (λ n. IsAt (desk_at b.objects t.p.0).own n (λ e. (e.op ≡ Get (data_node key)) × (get e.view key ≡ o))) (let e : j ≡ j + 0 = omega arith in e) h.first)
-    read_stays key (Lost x, j) b h = h
-
-    one_more : (key : Key) (x : Tried (Option Record) × ℕ) (b : Both) (op : Op) → is_live b.store t.p ≡ true → WritesNone t.classes op → op ≢ Rattle.obj_kinds.specs.declared.op.Op.TheVariants.End → Stays key 0 x b → Stays key 1 x (next b t.p op Plain)
-    one_more key (Got o, zero) b op live free ne h = absurd h
-    one_more key (Got o, suc j) b op live free ne h = (
-      plain_next t b op live free ne h.0,
-      subst (λ n. IsAt (desk_at (next b t.p op Plain).objects t.p.0).own n (λ e. (e.op ≡ Get (data_node key)) × (get e.view key ≡ o))) (let e : suc (j + 0) ≡ j + 1 = omega arith in e)
-          (later t b op (j + 0) (λ e. (e.op ≡ Get (data_node key)) × (get e.view key ≡ o)) h.1),
-    )
-    one_more key (Lost x, j) b op live free ne h = plain_next t b op live free ne h
-
-    stays_idle : (key : Key) (more : ℕ) (x : Tried (Option Record) × ℕ) (b : Both) → Stays key more x b → IsIdle t b
-    stays_idle key more (Got o, zero) b h = absurd h
-    stays_idle key more (Got o, suc j) b h = h.0
-    stays_idle key more (Lost x, j) b h = h
-
-    ends : (l : LoadCall) (mode : Mode) (x : Tried (Option Record) × ℕ) (c : Bool) (b : Both) → Stays l.key 0 x b → Fits t (load_ends t.classes tries most l mode x c) (λ a b. IsIdle t b) b
-    ends l mode x true b h = gives l 0 x b h
-    ends l mode x false b h = λ es others fit live.
-        let b' = after_all b es in
-        let h' = stays_all l.key 0 x b es others fit h in
-        let i' = stays_idle l.key 0 x b' h' in
-        (plain_may t b' (unlock mode (data_node l.key)) tt (λ e. cc e) i', gives l 1 x (next b' t.p (unlock mode (data_node l.key)) Plain) (one_more l.key x b' (unlock mode (data_node l.key)) live tt (λ e. cc e) h'))
+    -- one operation later
+    pub cause_later : (a : About) (x : Cause) (b : Both) (op : Op) → HasCause a 0 x b → HasCause a 1 x (next b t.p op Plain)
+    cause_later a x b op h = subst (λ os. 1 ≤ tries → HasTrueCause t.classes tries os a 1 x) (sym (own_next t b op)) (λ some. h some)
 
     -- ---- locks
 
-    abbrev pub Locked : Node → Tried (Unit {0}) → Both → Type 0
-    Locked n (Got u) b = IsIdle t b × HasHold b.store.holds t.p n
-    Locked n (Lost x) b = IsIdle t b
+    abbrev pub Locked : About → Node → Tried (Unit {0}) → Both → Type 0
+    Locked a n (Got u) b = IsIdle t b × HasHold b.store.holds t.p n
+    Locked a n (Lost x) b = IsIdle t b × HasCause a 0 x b
 
-    on_one : (n : Node) (r : Reply) (again : Cause → Does) (b : Both) → IsIdle t b → (r ≡ Granted → HasHold b.store.holds t.p n) → ((x : Cause) → Fits t (again x) (Locked n) b) → Fits t (on_lock r again) (Locked n) b
-    on_one n Granted again b i got more = (i, got refl)
-    on_one n (Held p m d) again b i got more = more (Busy p m)
-    on_one n _ again b i got more = more NotFound
+    -- it was refused so many times, the last time for this cause
+    record IsTrying (n : Node) (mode : Mode) (k : ℕ) (last : Cause) (b : Both) : Type 0 where
+      pub idle : IsIdle t b
+      pub refused : AreRefused (lock_counted mode n) k (desk_at b.objects t.p.0).own
+      pub why : IsLast k last (desk_at b.objects t.p.0).own
 
-    lock_from : (m : ℕ) (last : Cause) (n : Node) (mode : Mode) (b : Both) → IsIdle t b → Fits t (try_from last Plain m (lock_counted mode n)) (Locked n) b
-    lock_from zero last n mode b i = i
-    lock_from (suc m) last n mode b i = λ es others fit live.
+    trying_all : (n : Node) (mode : Mode) (k : ℕ) (last : Cause) (b : Both) (es : List Event) → AreOthers t.p es → AreFit t.classes t.Facts b es → IsTrying n mode k last b → IsTrying n mode k last (after_all b es)
+    trying_all n mode k last b es others fit h = record {
+      idle = idle_all t b es others fit h.idle;
+      refused = subst (λ os. AreRefused (lock_counted mode n) k os) (sym (own_all b es others)) h.refused;
+      why = subst (λ os. IsLast k last os) (sym (own_all b es others)) h.why;
+    }
+
+    trying_next : (n : Node) (mode : Mode) (k : ℕ) (last : Cause) (b : Both) (q : Pid) (at : Node) (d : Mode) → is_live b.store t.p ≡ true → reply b.store t.p (lock_counted mode n) ≡ Held q at d
+        → IsTrying n mode k last b → IsTrying n mode (suc k) (Busy q at) (next b t.p (lock_counted mode n) Plain)
+    trying_next n mode k last b q at d live e h = record {
+      idle = plain_next t b (lock_counted mode n) live tt (λ e. cc e) h.idle;
+      refused = subst (λ os. AreRefused (lock_counted mode n) (suc k) os) (sym (own_next t b (lock_counted mode n))) ((refl, (q, at, d, e)), h.refused);
+      why = subst (λ os. IsLast (suc k) (Busy q at) os) (sym (own_next t b (lock_counted mode n))) (q, at, d, refl, e);
+    }
+
+    lock_from : (a : About) (m k : ℕ) (last : Cause) (n : Node) (mode : Mode) (b : Both) → k + m ≡ tries → IsTrying n mode k last b → Fits t (try_from last Plain m (lock_counted mode n)) (Locked a n) b
+    lock_from a zero k last n mode b sum h =
+        let all : k ≡ tries = omega (arith, sum) in
+        (h.idle, λ some. busy_true t.classes tries a n mode Object Counted last (desk_at b.objects t.p.0).own some (subst (λ j. AreRefused (lock_counted mode n) j (desk_at b.objects t.p.0).own) all h.refused) (subst (λ j. IsLast j last (desk_at b.objects t.p.0).own) all h.why))
+    lock_from a (suc m) k last n mode b sum h = λ es others fit live.
         let op = lock_counted mode n in
         let b' = after_all b es in
+        let h' = trying_all n mode k last b es others fit h in (
+          plain_may t b' op tt (λ e. cc e) h'.idle,
+          elim (lock_reply b'.store t.p n mode Object Counted) [
+            | inl e ↦ subst (λ r. Fits t (on_lock r (λ x. try_from x Plain m op)) (Locked a n) (next b' t.p op Plain)) (sym e) (plain_next t b' op live tt (λ e. cc e) h'.idle, holds_counted b'.store t.p n mode e)
+            | inr r ↦ subst (λ r. Fits t (on_lock r (λ x. try_from x Plain m op)) (Locked a n) (next b' t.p op Plain)) (sym r.3)
+                (lock_from a m (suc k) (Busy r.0 r.1) n mode (next b' t.p op Plain) (let one : suc k + m ≡ tries = omega (arith, sum) in one) (trying_next n mode k last b' r.0 r.1 r.2 live r.3 h'))
+          ],
+        )
+
+    pub meets_try : (a : About) (n : Node) (mode : Mode) (b : Both) → IsIdle t b → Fits t (try Plain tries (lock_counted mode n)) (Locked a n) b
+    meets_try a n mode b i = lock_from a tries 0 NotFound n mode b (let e : 0 + tries ≡ tries = omega arith in e) (record { idle = i; refused = tt; why = tt })
+
+    -- ---- the read of a load
+
+    -- Behind so many further operations: it found what the view had at its first one, or failed.
+    abbrev Stays : LoadCall → ℕ → Tried (Option Record) × ℕ → Both → Type 0
+    Stays l more (Got (Some r), reads) b = IsIdle t b × IsAt (desk_at b.objects t.p.0).own ((reads - 1) + more) (Shows l.key r)
+    Stays l more (Got None, reads) b = IsIdle t b × HasCause (about t.classes tries most l) more (missing t.classes tries most l) b
+    Stays l more (Lost x, reads) b = IsIdle t b × HasCause (about t.classes tries most l) more x b
+
+    asked_idle : (key : Key) (o : Option Record) (j : ℕ) (b : Both) → Asked key o j b → IsIdle t b
+    asked_idle key o zero b h = absurd h
+    asked_idle key o (suc j) b h = h.idle
+
+    -- the row was read, and the view has nothing there
+    missing_true : (l : LoadCall) (e : Own) (os : List Own) → e.op ≡ Get (data_node l.key) → get e.view l.key ≡ None → HasTrueCause t.classes tries (e ∷ os) (about t.classes tries most l) 0 (missing t.classes tries most l)
+    missing_true l e os row none = by l.touch
+      where
+        by : (c : Bool) → HasTrueCause t.classes tries (e ∷ os) (about t.classes tries most l) 0 (cond c (Gone l.key.id) NotFound)
+        by true = (e, refl, (l.key, refl, refl, row, none))
+        by false = (e, refl, (l.key, refl, row, none))
+
+    other_true : (l : LoadCall) (e : Own) (os : List Own) (r : Record) (x : Cause) → e.op ≡ Get (data_node l.key) → get e.view l.key ≡ Some r → refuses_other t.classes l.class r.class ≡ Some x
+        → HasTrueCause t.classes tries (e ∷ os) (about t.classes tries most l) 0 x
+    other_true l e os r x row there = by (is_at_or_below t.classes r.class l.class) refl
+      where
+        by : (c : Bool) → is_at_or_below t.classes r.class l.class ≡ c → cond c None (Some (OtherClass r.class)) ≡ Some x → HasTrueCause t.classes tries (e ∷ os) (about t.classes tries most l) 0 x
+        by true f g = absurd (cc g)
+        by false f g = subst (λ y. HasTrueCause t.classes tries (e ∷ os) (about t.classes tries most l) 0 y) (let same : OtherClass r.class ≡ x = cc g in same) (e, refl, (l.key, l.class, r, (refl, refl), (row, there), refl, f))
+
+    module _ (l : LoadCall) (real : IsKeyOf t.classes l.key) (b : Both) (i : IsIdle t b) (h : Guards l.key b) (live : is_live b.store t.p ≡ true) where
+      abbrev now : Both
+      now = next b t.p (Get (data_node l.key)) Plain
+
+      abbrev seen : Option Record
+      seen = get (view b.objects t.p.0) l.key
+
+      abbrev row : Option Value
+      row = value_found (reply b.store t.p (Get (data_node l.key)))
+
+      abbrev refuses : ClassName → Option Cause
+      refuses = refuses_other t.classes l.class
+
+      base : (n : Node) → owner t.classes n ≡ Some l.key → get b.store.globals n ≡ shown t.classes l.key n seen
+      base n is = reads_view b n l.key is i h
+
+      shows_view : ShowsAt t.classes b.store.globals (view b.objects t.p.0) l.key
+      shows_view n is = base n is ∙ sym (image_of_key t.classes (view b.objects t.p.0) n l.key is)
+
+      first : IsLoading l.key seen 0 now
+      first = loading_first b l.key live i h
+
+      -- where no class is refused it is what the view has
+      told : (v : Option Value) → row ≡ v → (y : Tried (Option Record)) → undisturbed (reply b.store t.p) (on_row t.classes l.key Plain most refuses_none v) ≡ Some y → y ≡ Got seen
+      told v e y f = row_tells t.classes l.key Plain most b.store t.p (view b.objects t.p.0) y schema real (t.sound b t.p i.whole) shows_view
+          (ap (λ u. undisturbed (reply b.store t.p) (on_row t.classes l.key Plain most refuses_none u)) e ∙ f)
+
+      own_now : (desk_at now.objects t.p.0).own ≡ record { op = Get (data_node l.key); reply = reply b.store t.p (Get (data_node l.key)); view = view b.objects t.p.0 } ∷ (desk_at b.objects t.p.0).own
+      own_now = own_next t b (Get (data_node l.key))
+
+      -- a record of the class stands there, which is refused
+      refused_class : (v : Value) (class : ClassName) (x : Cause) → row ≡ Some v → row_class t.classes l.key.extent v ≡ Some class → refuses class ≡ Some x → Stays l 0 (Lost x, 1) now
+      refused_class v class x e f g =
+          let there = row_has_class t.classes l.key Plain b.store t.p (view b.objects t.p.0) v class schema real (t.sound b t.p i.whole) shows_view e f in
+          (first.idle, λ some. subst (λ os. HasTrueCause t.classes tries os (about t.classes tries most l) 0 x) (sym own_now) (other_true l _ (desk_at b.objects t.p.0).own there.0 x refl there.1 (ap refuses there.2 ∙ g)))
+
+      without_refusal : (v : Value) (class : ClassName) (y : Tried (Option Record)) → row ≡ Some v → row_class t.classes l.key.extent v ≡ Some class
+          → undisturbed (reply b.store t.p) (read_as t.classes l.key Plain most class (items_behind v)) ≡ Some y → y ≡ Got seen
+      without_refusal v class y e f h = told (Some v) e y (subst (λ m. undisturbed (reply b.store t.p) (on_marker t.classes l.key Plain most refuses_none (items_behind v) m) ≡ Some y) (sym f) h)
+
+      was_read : (v : Value) (class : ClassName) → row ≡ Some v → row_class t.classes l.key.extent v ≡ Some class → (x : Tried (Option Record) × ℕ) (b' : Both)
+          → undisturbed (reply b.store t.p) (read_as t.classes l.key Plain most class (items_behind v)) ≡ Some x.0 → Asked l.key seen x.1 b' → Stays l 0 x b'
+      was_read v class e f (Lost x, j) b' h m = let no = without_refusal v class (Lost x) e f h in absurd (cc no)
+      was_read v class e f (Got None, j) b' h m = let no = read_class t.classes l.key Plain most (reply b.store t.p) class (items_behind v) None h in absurd (cc no.1)
+      was_read v class e f (Got (Some r), zero) b' h m = absurd m
+      was_read v class e f (Got (Some r), suc j) b' h m =
+          let is = without_refusal v class (Got (Some r)) e f h in
+          let same : seen ≡ Some r = cc is in
+          let at : j ≡ (suc j - 1) + 0 = omega arith in
+          (m.idle, subst (λ k. IsAt (desk_at b'.objects t.p.0).own k (Shows l.key r)) at (subst (λ o. IsAt (desk_at b'.objects t.p.0).own j (λ e. (e.op ≡ Get (data_node l.key)) × (get e.view l.key ≡ o))) same m.first))
+
+      only_as : (v : Value) (class : ClassName) → row_class t.classes l.key.extent v ≡ Some class → refuses class ≡ None → OnlyLooks l.key Plain (read_as t.classes l.key Plain most class (items_behind v))
+      only_as v class f g =
+          subst (λ x. OnlyLooks l.key Plain (on_refusal t.classes l.key Plain most class (items_behind v) x)) g
+          (subst (λ m. OnlyLooks l.key Plain (on_marker t.classes l.key Plain most refuses (items_behind v) m)) f (only_row l.key Plain t.classes most refuses (Some v)))
+
+      read_on : (v : Value) (class : ClassName) → row ≡ Some v → row_class t.classes l.key.extent v ≡ Some class → refuses class ≡ None
+          → Fits t (timed_from 1 (read_as t.classes l.key Plain most class (items_behind v))) (Stays l 0) now
+      read_on v class e f g =
+          meets_post t (timed_from 1 (read_as t.classes l.key Plain most class (items_behind v)))
+          (λ x b'. (undisturbed (reply b.store t.p) (read_as t.classes l.key Plain most class (items_behind v)) ≡ Some x.0) × Asked l.key seen x.1 b') (Stays l 0) now
+          (λ x b' m. was_read v class e f x b' m.0 m.1)
+          (fits_timed t l.key real Plain (Asked l.key seen) seen (reader l.key seen) b.store base (read_as t.classes l.key Plain most class (items_behind v)) (only_as v class f g) 1 now first)
+
+      on_value : (v : Option Value) → row ≡ v → Fits t (timed_from 1 (on_row t.classes l.key Plain most refuses v)) (Stays l 0) now
+      on_value None e =
+          let is = told None e (Got None) refl in
+          let none : seen ≡ None = cc is in
+          (first.idle, λ some. subst (λ os. HasTrueCause t.classes tries os (about t.classes tries most l) 0 (missing t.classes tries most l)) (sym own_now) (missing_true l _ (desk_at b.objects t.p.0).own refl none))
+      on_value (Some v) e = on_class (row_class t.classes l.key.extent v) refl
+        where
+          on_known : (class : ClassName) (x : Option Cause) → row_class t.classes l.key.extent v ≡ Some class → refuses class ≡ x → Fits t (timed_from 1 (on_refusal t.classes l.key Plain most class (items_behind v) x)) (Stays l 0) now
+          on_known class (Some x) f g = refused_class v class x e f g
+          on_known class None f g = read_on v class e f g
+
+          on_class : (m : Option ClassName) → row_class t.classes l.key.extent v ≡ m → Fits t (timed_from 1 (on_marker t.classes l.key Plain most refuses (items_behind v) m)) (Stays l 0) now
+          on_class None f =
+              let no = told (Some v) e (Lost (Damaged (data_node l.key))) (ap (λ m. undisturbed (reply b.store t.p) (on_marker t.classes l.key Plain most refuses_none (items_behind v) m)) f) in
+              absurd (cc no)
+          on_class (Some class) f = on_known class (refuses class) f refl
+
+    meets_read : (l : LoadCall) → IsKeyOf t.classes l.key → (b : Both) → IsIdle t b → Guards l.key b → Fits t (load_read t.classes tries most l) (Stays l 0) b
+    unfolding read
+    meets_read l real b i h = λ es others fit live.
+        let b' = after_all b es in
         let i' = idle_all t b es others fit i in
-        let i2 = plain_next t b' op live tt (λ e. cc e) i' in
-        (plain_may t b' op tt (λ e. cc e) i', on_one n (reply b'.store t.p op) (λ x. try_from x Plain m op) (next b' t.p op Plain) i2 (λ e. holds_counted b'.store t.p n mode e) (λ x. lock_from m x n mode (next b' t.p op Plain) i2))
+        (plain_may t b' (Get (data_node l.key)) tt (λ e. cc e) i', on_value l real b' i' (guards_all b es l.key others h) live (value_found (reply b'.store t.p (Get (data_node l.key)))) refl)
 
-    pub meets_try : (n : Node) (mode : Mode) (b : Both) → IsIdle t b → Fits t (try Plain tries (lock_counted mode n)) (Locked n) b
-    meets_try n mode b i = lock_from tries NotFound n mode b i
+    -- ---- the load
 
-    pub locked_idle : (n : Node) (x : Tried (Unit {0})) (b : Both) → Locked n x b → IsIdle t b
-    locked_idle n (Got u) b h = h.0
-    locked_idle n (Lost x) b h = h
+    gives : (l : LoadCall) (more : ℕ) (x : Tried (Option Record) × ℕ) (b : Both) → Stays l more x b → Fits t (load_gives t.classes tries most l more x) (λ a b. IsIdle t b) b
+    gives l more (Got None, reads) b h = (tells.fails (desk_at b.objects t.p.0).own (about t.classes tries most l) more (missing t.classes tries most l) h.1, h.0)
+    gives l more (Got (Some r), reads) b h = (tells.loads (desk_at b.objects t.p.0).own ((reads - 1) + more) l.key r h.1, h.0)
+    gives l more (Lost x, reads) b h = (tells.fails (desk_at b.objects t.p.0).own (about t.classes tries most l) more x h.1, h.0)
 
-    -- ---- the whole
+    stays_all : (l : LoadCall) (more : ℕ) (x : Tried (Option Record) × ℕ) (b : Both) (es : List Event) → AreOthers t.p es → AreFit t.classes t.Facts b es → Stays l more x b → Stays l more x (after_all b es)
+    stays_all l more (Got (Some r), reads) b es others fit h = (idle_all t b es others fit h.0, subst (λ os. IsAt os ((reads - 1) + more) (Shows l.key r)) (sym (own_all b es others)) h.1)
+    stays_all l more (Got None, reads) b es others fit h = (idle_all t b es others fit h.0, cause_all (about t.classes tries most l) more (missing t.classes tries most l) b es others h.1)
+    stays_all l more (Lost x, reads) b es others fit h = (idle_all t b es others fit h.0, cause_all (about t.classes tries most l) more x b es others h.1)
 
-    locked : (l : LoadCall) (mode : Mode) → IsKeyOf t.classes l.key → (x : Tried (Unit {0})) (b : Both) → Locked (data_node l.key) x b → Fits t (load_locked t.classes tries most l mode x) (λ a b. IsIdle t b) b
-    locked l mode real (Lost x) b h = (tells.fails _ _ _ _, h)
+    one_more : (l : LoadCall) (x : Tried (Option Record) × ℕ) (b : Both) (op : Op) → is_live b.store t.p ≡ true → WritesNone t.classes op → op ≢ Rattle.obj_kinds.specs.declared.op.Op.TheVariants.End → Stays l 0 x b → Stays l 1 x (next b t.p op Plain)
+    one_more l (Got (Some r), reads) b op live free ne h = (
+      plain_next t b op live free ne h.0,
+      subst (λ k. IsAt (desk_at (next b t.p op Plain).objects t.p.0).own k (Shows l.key r)) (let e : suc ((reads - 1) + 0) ≡ (reads - 1) + 1 = omega arith in e) (later t b op ((reads - 1) + 0) (Shows l.key r) h.1),
+    )
+    one_more l (Got None, reads) b op live free ne h = (plain_next t b op live free ne h.0, cause_later (about t.classes tries most l) (missing t.classes tries most l) b op h.1)
+    one_more l (Lost x, reads) b op live free ne h = (plain_next t b op live free ne h.0, cause_later (about t.classes tries most l) x b op h.1)
+
+    stays_idle : (l : LoadCall) (more : ℕ) (x : Tried (Option Record) × ℕ) (b : Both) → Stays l more x b → IsIdle t b
+    stays_idle l more (Got (Some r), reads) b h = h.0
+    stays_idle l more (Got None, reads) b h = h.0
+    stays_idle l more (Lost x, reads) b h = h.0
+
+    ends : (l : LoadCall) (mode : Mode) (x : Tried (Option Record) × ℕ) (c : Bool) (b : Both) → Stays l 0 x b → Fits t (load_ends t.classes tries most l mode x c) (λ a b. IsIdle t b) b
+    ends l mode x true b h = gives l 0 x b h
+    ends l mode x false b h = λ es others fit live.
+        let b' = after_all b es in
+        let h' = stays_all l 0 x b es others fit h in
+        let i' = stays_idle l 0 x b' h' in
+        (plain_may t b' (unlock mode (data_node l.key)) tt (λ e. cc e) i', gives l 1 x (next b' t.p (unlock mode (data_node l.key)) Plain) (one_more l x b' (unlock mode (data_node l.key)) live tt (λ e. cc e) h'))
+
+    locked : (l : LoadCall) (mode : Mode) → IsKeyOf t.classes l.key → (x : Tried (Unit {0})) (b : Both) → Locked (about t.classes tries most l) (data_node l.key) x b → Fits t (load_locked t.classes tries most l mode x) (λ a b. IsIdle t b) b
+    locked l mode real (Lost x) b h = (tells.fails (desk_at b.objects t.p.0).own (about t.classes tries most l) 0 x h.1, h.0)
     locked l mode real (Got u) b h =
-        meets_bind t (load_read t.classes tries most l) (λ x. load_ends t.classes tries most l mode x (keeps_lock t.classes tries most l x.0)) (IsReadBy l.key) (λ a b. IsIdle t b) b
-        (λ x b' m. ends l mode x (keeps_lock t.classes tries most l x.0) b' (read_stays l.key x b' m)) (meets_read schema most l.key real (refuses_other t.classes l.class) b h.0 h.1)
+        meets_bind t (load_read t.classes tries most l) (λ x. load_ends t.classes tries most l mode x (keeps_lock t.classes tries most l x.0)) (Stays l 0) (λ a b. IsIdle t b) b
+        (λ x b' m. ends l mode x (keeps_lock t.classes tries most l x.0) b' m) (meets_read l real b h.0 h.1)
 
     high : (u : ℕ) → nat_lt u 2 ≡ false → nat_lt 1 u ≡ true
     high u e = grind (arith, nat_tests)
@@ -303,13 +399,17 @@ module _ (t : Setting) where
     unfolding load
     meets_load l b real level i = subst (λ m. Fits t (load_by t.classes tries most l m) (λ a b. IsIdle t b) b) (sym (mode_of l level))
         (let mode = cond (l.level == 4) Exclusive Shared in
-        meets_bind t (try Plain tries (lock_counted mode (data_node l.key))) (load_locked t.classes tries most l mode) (Locked (data_node l.key)) (λ a b. IsIdle t b) b
-        (λ x b' h. locked l mode real x b' h) (meets_try (data_node l.key) mode b i))
+        meets_bind t (try Plain tries (lock_counted mode (data_node l.key))) (load_locked t.classes tries most l mode) (Locked (about t.classes tries most l) (data_node l.key)) (λ a b. IsIdle t b) b
+        (λ x b' h. locked l mode real x b' h) (meets_try (about t.classes tries most l) (data_node l.key) mode b i))
 
     -- ---- a live object is raised
 
-    raised : (key : Key) (class : ClassName) (u v : ℕ) (x : Tried (Unit {0})) (b : Both) → IsIdle t b → Fits t (raise_ends tries key class u v x) (λ a b. IsIdle t b) b
-    raised key class u v (Lost x) b i = (tells.fails _ _ _ _, i)
+    abbrev RaiseEnds : Key → ClassName → Tried (Unit {0}) → Both → Type 0
+    RaiseEnds key class (Got u) b = IsIdle t b
+    RaiseEnds key class (Lost x) b = IsIdle t b × HasCause (Opening key class) 0 x b
+
+    raised : (key : Key) (class : ClassName) (u v : ℕ) (x : Tried (Unit {0})) (b : Both) → RaiseEnds key class x b → Fits t (raise_ends tries key class u v x) (λ a b. IsIdle t b) b
+    raised key class u v (Lost x) b h = (tells.fails (desk_at b.objects t.p.0).own (Opening key class) 0 x h.1, h.0)
     raised key class u v (Got w) b i = by (v == 4 && u == 3)
       where
         by : (c : Bool) → Fits t (when c (does Plain (unlock Shared (data_node key)))) (λ a b. IsIdle t b) b
@@ -319,13 +419,17 @@ module _ (t : Setting) where
             (plain_may t b' (unlock Shared (data_node key)) tt (λ e. cc e) i', plain_next t b' (unlock Shared (data_node key)) live tt (λ e. cc e) i')
         by false = i
 
-    raise_locked : (key : Key) (class : ClassName) (v : ℕ) (b : Both) → IsIdle t b → Fits t (raise_lock tries key class v) (λ x b. IsIdle t b) b
+    locked_raised : (key : Key) (class : ClassName) (x : Tried (Unit {0})) (b : Both) → Locked (Opening key class) (data_node key) x b → RaiseEnds key class x b
+    locked_raised key class (Got u) b h = h.0
+    locked_raised key class (Lost x) b h = h
+
+    raise_locked : (key : Key) (class : ClassName) (v : ℕ) (b : Both) → IsIdle t b → Fits t (raise_lock tries key class v) (RaiseEnds key class) b
     raise_locked key class v b i = by (v == 4) (v == 3)
       where
-        one : (mode : Mode) → Fits t (try Plain tries (lock_counted mode (data_node key))) (λ x b. IsIdle t b) b
-        one mode = meets_post t (try Plain tries (lock_counted mode (data_node key))) (Locked (data_node key)) (λ x b. IsIdle t b) b (locked_idle (data_node key)) (meets_try (data_node key) mode b i)
+        one : (mode : Mode) → Fits t (try Plain tries (lock_counted mode (data_node key))) (RaiseEnds key class) b
+        one mode = meets_post t (try Plain tries (lock_counted mode (data_node key))) (Locked (Opening key class) (data_node key)) (RaiseEnds key class) b (locked_raised key class) (meets_try (Opening key class) (data_node key) mode b i)
 
-        by : (x y : Bool) → Fits t (cond x (try Plain tries (lock_counted Exclusive (data_node key))) (when y (try Plain tries (lock_counted Shared (data_node key))))) (λ x b. IsIdle t b) b
+        by : (x y : Bool) → Fits t (cond x (try Plain tries (lock_counted Exclusive (data_node key))) (when y (try Plain tries (lock_counted Shared (data_node key))))) (RaiseEnds key class) b
         by true y = one Exclusive
         by false true = one Shared
         by false false = i
@@ -335,5 +439,5 @@ module _ (t : Setting) where
     meets_raise key class u v b i = by (nat_lt u v)
       where
         by : (c : Bool) → Fits t (when c (bind (raise_lock tries key class v) (raise_ends tries key class u v))) (λ a b. IsIdle t b) b
-        by true = meets_bind t (raise_lock tries key class v) (raise_ends tries key class u v) (λ x b. IsIdle t b) (λ a b. IsIdle t b) b (λ x b' h. raised key class u v x b' h) (raise_locked key class v b i)
+        by true = meets_bind t (raise_lock tries key class v) (raise_ends tries key class u v) (RaiseEnds key class) (λ a b. IsIdle t b) b (λ x b' h. raised key class u v x b' h) (raise_locked key class v b i)
         by false = i
