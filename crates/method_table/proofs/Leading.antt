@@ -102,7 +102,7 @@ first_place f x xs = by (f x) refl
         ∙ option_later (nat_lt (position_or_len f xs) (length xs)) (position_or_len f xs) (1 + position_or_len f xs) (omega arith)
         ∙ sym (ap (λ b. cond b (Some 0) (option_map suc (position f xs))) at)
 
-abbrev Located : List Class → List (List Block) → Option ℕ → Option (Class × List Block) → Type 0
+abbrev pub Located : List Class → List (List Block) → Option ℕ → Option (Class × List Block) → Type 0
 Located cs bs None None = Unit {0}
 Located cs bs (Some i) (Some r) = (slice_get cs i ≡ Some r.0) × (slice_get bs i ≡ Some r.1)
 Located cs bs _ _ = ⊥
@@ -113,7 +113,7 @@ shifted c b cs bs (Some i) (Some r) l = l
 shifted c b cs bs None (Some r) l = elim l [ ]
 shifted c b cs bs (Some i) None l = elim l [ ]
 
-located : (cs : List Class) (bs : List (List Block)) → HaveBodies cs bs → (class : ClassName) → Located cs bs (place_of (class_names cs) class) (class_at class cs bs)
+pub located : (cs : List Class) (bs : List (List Block)) → HaveBodies cs bs → (class : ClassName) → Located cs bs (place_of (class_names cs) class) (class_at class cs bs)
 located [] [] have class = tt
 located [] (b ∷ bs) have class = elim have [ ]
 located (c ∷ cs) [] have class = elim have [ ]
