@@ -21,12 +21,14 @@ use Rattle.object_runs.specs.Invariant.{changes, Present}
 use Rattle.run_rules.specs.Steps.{next, and_asked}
 use Rattle.run_rules.proofs.Whole.{desk_own}
 use Rattle.sound_runs.specs.Closing.{entries_within, Draws, IsDrawn, AreDistinct}
+use Rattle.sound_runs.specs.Backed.{Knows}
 use Rattle.sound_runs.proofs.Counters.{Steps, counter_steps}
+use Rattle.sound_runs.proofs.Viewed.{draws_are_fresh}
 use Rattle.call_rules.specs.Settings.{Setting}
-use Rattle.call_rules.proofs.Rules.{In, IsFact, Does, true_fact, both_facts, within_saving, does_give, does_ask, does_then, does_weaken, does_with}
-use Rattle.saving_rules.specs.Saving.{IsNumbered, IdsFor, AreIdsFor, key_with, IsLive, NoneHas, IsNoLater, AreApart}
+use Rattle.call_rules.proofs.Rules.{In, IsFact, Does, true_fact, both_facts, each_fact, within_saving, does_give, does_ask, does_then, does_weaken, does_with}
+use Rattle.saving_rules.specs.Saving.{IsNumbered, IdsFor, AreIdsFor, key_with, IsFree, FreeBy, AreFree, IsLive, NoneHas, IsNoLater, AreApart}
 use Rattle.saving_rules.proofs.Works.{apart_key}
-use Rattle.saving_rules.proofs.Facts.{IsSteadySetting, four_facts, drawn_fact}
+use Rattle.saving_rules.proofs.Facts.{IsSteadySetting, four_facts, drawn_fact, knows_fact}
 
 or_left : (a b : Bool) → (a || b) ≡ false → a ≡ false
 or_left false b e = refl
@@ -40,13 +42,30 @@ neither : (a b : Bool) → a ≡ false → b ≡ false → (a || b) ≡ false
 neither false b e f = f
 neither true b e f = absurd (cc e)
 
+abbrev itemed : (Drawn → List Item) → Drawn → ToSave → Option (List ℕ) → Drawn → List Item
+itemed rest all o x ds = Rattle.object_calls.specs.Saves.keyed rest all o x ds
+
 module _ (t : Setting) (steady : IsSteadySetting t) (is_live : Key → Bool) where
+  -- a new object's key was drawn
+  abbrev pub IsBorn : Item → Both → Type 0
+  IsBorn i b = i.is_new ≡ true → IsDrawn b.objects t.p.0 i.key
+
+  pub are_high : (all : Drawn) (os : List ToSave) (ds : Drawn) → Each (λ (o : ToSave). nat_lt 0 o.level ≡ true) os → Each (λ (i : Item). nat_lt 0 i.level ≡ true) (items_from all os ds)
+  are_high all [] ds h = tt
+  are_high all (o ∷ os) ds h = by o.id ds (λ e. are_high all os e h.1)
+    where
+      by : (x : Option (List ℕ)) (ds : Drawn) → ((e : Drawn) → Each (λ (i : Item). nat_lt 0 i.level ≡ true) (items_from all os e)) → Each (λ (i : Item). nat_lt 0 i.level ≡ true) (itemed (items_from all os) all o x ds)
+      by (Some id) ds more = (h.0, more ds)
+      by None [] more = tt
+      by None (d ∷ ds) more = (h.0, more ds)
+
+module _ (t : Setting) (steady : IsSteadySetting t) (is_live : Key → Bool) (known : List (Key × ClassName)) where
   abbrev IsTakenId : List Key → Key → Bool
   IsTakenId keys key = is_live key || list_any (is_key key) keys
 
   -- the number's key was drawn, and neither a live object nor an earlier one has it
   abbrev pub IsNew : ℕ → ClassName → List Key → ℕ × List ℕ → Both → Type 0
-  IsNew number extent keys d b = (d.0 ≡ number) × IsNumbered d.1 × ((is_live (key_with extent d.1) || list_any (is_key (key_with extent d.1)) keys) ≡ false) × IsDrawn b.objects t.p.0 (key_with extent d.1)
+  IsNew number extent keys d b = (d.0 ≡ number) × IsNumbered d.1 × IsFree is_live known keys (key_with extent d.1) × IsDrawn b.objects t.p.0 (key_with extent d.1)
 
   abbrev pub DrewBy : ℕ → ClassName → (List Key → Drawn → Both → Type 0) → List Key → Option (List ℕ) → Drawn → Both → Type 0
   DrewBy number extent rest keys (Some id) ds b = rest keys ds b
@@ -60,8 +79,8 @@ module _ (t : Setting) (steady : IsSteadySetting t) (is_live : Key → Bool) whe
 
   new_fact : (number : ℕ) (extent : ClassName) (keys : List Key) (d : ℕ × List ℕ) → IsFact t (IsNew number extent keys d)
   new_fact number extent keys d =
-      four_facts t (λ b. d.0 ≡ number) (λ b. IsNumbered d.1) (λ b. (is_live (key_with extent d.1) || list_any (is_key (key_with extent d.1)) keys) ≡ false) (λ b. IsDrawn b.objects t.p.0 (key_with extent d.1))
-      (true_fact t (d.0 ≡ number)) (true_fact t (IsNumbered d.1)) (true_fact t ((is_live (key_with extent d.1) || list_any (is_key (key_with extent d.1)) keys) ≡ false)) (drawn_fact t steady (key_with extent d.1))
+      four_facts t (λ b. d.0 ≡ number) (λ b. IsNumbered d.1) (λ b. IsFree is_live known keys (key_with extent d.1)) (λ b. IsDrawn b.objects t.p.0 (key_with extent d.1))
+      (true_fact t (d.0 ≡ number)) (true_fact t (IsNumbered d.1)) (true_fact t (IsFree is_live known keys (key_with extent d.1))) (drawn_fact t steady (key_with extent d.1))
 
   pub drew_fact : (keys : List Key) (os : List ToSave) (ds : Drawn) → IsFact t (Drew keys os ds)
   drew_fact keys [] [] = true_fact t (Unit {0})
@@ -77,12 +96,12 @@ module _ (t : Setting) (steady : IsSteadySetting t) (is_live : Key → Bool) whe
 
   abbrev OneKey : ClassName → List Key → Key → Both → Type 0
   OneKey extent keys key b =
-      (key ≡ key_with extent key.id) × IsNumbered key.id × ((is_live (key_with extent key.id) || list_any (is_key (key_with extent key.id)) keys) ≡ false) × IsDrawn b.objects t.p.0 (key_with extent key.id)
+      (key ≡ key_with extent key.id) × IsNumbered key.id × IsFree is_live known keys (key_with extent key.id) × IsDrawn b.objects t.p.0 (key_with extent key.id)
 
   one_key_fact : (extent : ClassName) (keys : List Key) (key : Key) → IsFact t (OneKey extent keys key)
   one_key_fact extent keys key =
-      four_facts t (λ b. key ≡ key_with extent key.id) (λ b. IsNumbered key.id) (λ b. (is_live (key_with extent key.id) || list_any (is_key (key_with extent key.id)) keys) ≡ false) (λ b. IsDrawn b.objects t.p.0 (key_with extent key.id))
-      (true_fact t (key ≡ key_with extent key.id)) (true_fact t (IsNumbered key.id)) (true_fact t ((is_live (key_with extent key.id) || list_any (is_key (key_with extent key.id)) keys) ≡ false)) (drawn_fact t steady (key_with extent key.id))
+      four_facts t (λ b. key ≡ key_with extent key.id) (λ b. IsNumbered key.id) (λ b. IsFree is_live known keys (key_with extent key.id)) (λ b. IsDrawn b.objects t.p.0 (key_with extent key.id))
+      (true_fact t (key ≡ key_with extent key.id)) (true_fact t (IsNumbered key.id)) (true_fact t (IsFree is_live known keys (key_with extent key.id))) (drawn_fact t steady (key_with extent key.id))
 
   abbrev Numbers : ClassName → List Key → Key → Reply → Type 0
   Numbers extent keys key r = (i : ℕ) × (r ≡ Number (pos (suc i))) × (key ≡ key_with extent (suc i ∷ [])) × (IsTakenId keys (key_with extent (suc i ∷ [])) ≡ false)
@@ -129,28 +148,50 @@ module _ (t : Setting) (steady : IsSteadySetting t) (is_live : Key → Bool) whe
       (subst (λ w. DrawnAt key w (newest ∷ (desk_at b.objects t.p.0).own))
       (sym (ap (within_after op (reply b.store t.p op) Inside (desk_at b.objects t.p.0).lists) h.is ∙ within_saving t op (reply b.store t.p op) (desk_at b.objects t.p.0).lists h.now tt)) now)
 
-  does_draw_one : (extent : ClassName) (keys : List Key) → is_extent_of t.classes extent ≡ true → Does t [] (λ b. Unit {0}) (draw_one is_live keys extent) (OneKey extent keys) []
-  does_draw_one extent keys real = does_ask t [] (λ b. Unit {0}) (Incr (counter_node extent) (pos 1)) (on_number is_live keys extent) (OneKey extent keys) [] (true_fact t (Unit {0})) tt (λ n x. refl) (λ b h. ((extent, real, refl), refl))
+  -- ---- what the process knows
+
+  abbrev Knowing : Both → Type 0
+  Knowing b = Each (λ (k : Key × ClassName). Knows t.classes b.store b.objects t.p.0 k.0 k.1) known
+
+  knowing_fact : IsFact t Knowing
+  knowing_fact = each_fact t (λ (k : Key × ClassName) b. Knows t.classes b.store b.objects t.p.0 k.0 k.1) (λ k. knows_fact t steady k.0 k.1) known
+
+  -- a number that is drawn is no id that the process knows
+  unknown : (b : Both) (extent : ClassName) (i : ℕ) → t.Inv b → reply b.store t.p (Incr (counter_node extent) (pos 1)) ≡ Number (pos i) → (ks : List (Key × ClassName)) → Each (λ (k : Key × ClassName). Knows t.classes b.store b.objects t.p.0 k.0 k.1) ks
+      → list_any (λ (k : Key × ClassName). is_key (key_with extent (i ∷ [])) k.0) ks ≡ false
+  unknown b extent i w told [] h = refl
+  unknown b extent i w told (k ∷ ks) h = neither (is_key (key_with extent (i ∷ [])) k.0) _
+      (apart_key (key_with extent (i ∷ [])) k.0 (λ same. draws_are_fresh t.classes b.store b.objects t.p k.0 k.1 i (steady.steady b w).invariant (steady.steady b w).backed h.0
+      (subst (λ (e : ClassName). reply b.store t.p (Incr (counter_node e) (pos 1)) ≡ Number (pos i)) (ap (λ (j : Key). j.extent) same) told) (ap (λ (j : Key). j.id) (sym same))))
+      (unknown b extent i w told ks h.1)
+
+  does_draw_one : (extent : ClassName) (keys : List Key) → is_extent_of t.classes extent ≡ true → Does t [] Knowing (draw_one is_live keys extent) (OneKey extent keys) []
+  does_draw_one extent keys real = does_ask t [] Knowing (Incr (counter_node extent) (pos 1)) (on_number is_live keys extent) (OneKey extent keys) [] knowing_fact tt (λ n x. refl) (λ b h. ((extent, real, refl), refl))
       (λ b key i h live e.
       (let g = got_number extent keys key (reply b.store t.p (Incr (counter_node extent) (pos 1))) e in
       let d = drawn_now b [] extent (suc g.0) i g.1 in
-      subst (λ k. OneKey extent keys k (next b t.p (Incr (counter_node extent) (pos 1)) Inside)) (sym g.2) (refl, (g.0, refl, in_limit b extent g.0 i.whole real g.1), g.3, d)))
+      let free : IsFree is_live known keys (key_with extent (suc g.0 ∷ [])) = (g.3, unknown b extent (suc g.0) i.whole g.1 known h) in
+      subst (λ k. OneKey extent keys k (next b t.p (Incr (counter_node extent) (pos 1)) Inside)) (sym g.2) (refl, (g.0, refl, in_limit b extent g.0 i.whole real g.1), free, d)))
 
   -- ---- all draws
 
-  pub does_draw : (os : List ToSave) → Each (λ (o : ToSave). is_extent_of t.classes o.extent ≡ true) os → (keys : List Key) → Does t [] (λ b. Unit {0}) (draw is_live keys os) (λ ds b. Drew keys os ds b) []
-  does_draw [] real keys = does_give t [] (λ b. Unit {0}) [] (λ ds b. Drew keys [] ds b) (λ b h. tt)
+  abbrev OneKnowing : ClassName → List Key → Key → Both → Type 0
+  OneKnowing extent keys key b = OneKey extent keys key b × Knowing b
+
+  pub does_draw : (os : List ToSave) → Each (λ (o : ToSave). is_extent_of t.classes o.extent ≡ true) os → (keys : List Key) → Does t [] Knowing (draw is_live keys os) (λ ds b. Drew keys os ds b) []
+  does_draw [] real keys = does_give t [] Knowing [] (λ ds b. Drew keys [] ds b) (λ b h. tt)
   does_draw (o ∷ os) real keys = by o.id (does_draw os real.1)
     where
-      by : (x : Option (List ℕ)) → ((ks : List Key) → Does t [] (λ b. Unit {0}) (draw is_live ks os) (λ ds b. Drew ks os ds b) [])
-          → Does t [] (λ b. Unit {0}) (draw_if is_live (λ ks. draw is_live ks os) keys o.number o.extent x) (λ ds b. DrewBy o.number o.extent (λ ks e c. Drew ks os e c) keys x ds b) []
+      by : (x : Option (List ℕ)) → ((ks : List Key) → Does t [] Knowing (draw is_live ks os) (λ ds b. Drew ks os ds b) [])
+          → Does t [] Knowing (draw_if is_live (λ ks. draw is_live ks os) keys o.number o.extent x) (λ ds b. DrewBy o.number o.extent (λ ks e c. Drew ks os e c) keys x ds b) []
       by (Some id) more = more keys
       by None more =
-          does_then t [] (λ b. Unit {0}) (draw_one is_live keys o.extent) (λ key. then (draw is_live (key ∷ keys) os) (λ ids. Give (Got ((o.number, key.id) ∷ ids)))) (OneKey o.extent keys) (λ ds b. DrewBy o.number o.extent (λ ks e c. Drew ks os e c) keys None ds b) []
-          (does_draw_one o.extent keys real.0)
-          (λ key. does_then t [] (OneKey o.extent keys key) (draw is_live (key ∷ keys) os) (λ ids. Give (Got ((o.number, key.id) ∷ ids))) (λ ids b. Drew (key ∷ keys) os ids b × OneKey o.extent keys key b) (λ ds b. DrewBy o.number o.extent (λ ks e c. Drew ks os e c) keys None ds b) []
-          (does_weaken t [] (λ b. Unit {0} × OneKey o.extent keys key b) (OneKey o.extent keys key) (draw is_live (key ∷ keys) os) (λ ids b. Drew (key ∷ keys) os ids b × OneKey o.extent keys key b) [] (λ b h. (tt, h))
-          (does_with t [] (λ b. Unit {0}) (OneKey o.extent keys key) (draw is_live (key ∷ keys) os) (λ ids b. Drew (key ∷ keys) os ids b) [] (one_key_fact o.extent keys key) (more (key ∷ keys))))
+          does_then t [] Knowing (draw_one is_live keys o.extent) (λ key. then (draw is_live (key ∷ keys) os) (λ ids. Give (Got ((o.number, key.id) ∷ ids)))) (OneKnowing o.extent keys) (λ ds b. DrewBy o.number o.extent (λ ks e c. Drew ks os e c) keys None ds b) []
+          (does_weaken t [] (λ b. Knowing b × Knowing b) Knowing (draw_one is_live keys o.extent) (OneKnowing o.extent keys) [] (λ b h. (h, h))
+          (does_with t [] Knowing Knowing (draw_one is_live keys o.extent) (OneKey o.extent keys) [] knowing_fact (does_draw_one o.extent keys real.0)))
+          (λ key. does_then t [] (OneKnowing o.extent keys key) (draw is_live (key ∷ keys) os) (λ ids. Give (Got ((o.number, key.id) ∷ ids))) (λ ids b. Drew (key ∷ keys) os ids b × OneKey o.extent keys key b) (λ ds b. DrewBy o.number o.extent (λ ks e c. Drew ks os e c) keys None ds b) []
+          (does_weaken t [] (λ b. Knowing b × OneKey o.extent keys key b) (OneKnowing o.extent keys key) (draw is_live (key ∷ keys) os) (λ ids b. Drew (key ∷ keys) os ids b × OneKey o.extent keys key b) [] (λ b h. (h.1, h.0))
+          (does_with t [] Knowing (OneKey o.extent keys key) (draw is_live (key ∷ keys) os) (λ ids b. Drew (key ∷ keys) os ids b) [] (one_key_fact o.extent keys key) (more (key ∷ keys))))
           (λ ids. does_give t [] (λ b. Drew (key ∷ keys) os ids b × OneKey o.extent keys key b) ((o.number, key.id) ∷ ids) (λ ds b. DrewBy o.number o.extent (λ ks e c. Drew ks os e c) keys None ds b)
           (λ b h. ((refl, h.1.1, h.1.2, h.1.3), subst (λ k. Drew (k ∷ keys) os ids b) h.1.0 h.0))))
 
@@ -166,30 +207,24 @@ module _ (t : Setting) (steady : IsSteadySetting t) (is_live : Key → Bool) whe
       by None [] h more = absurd h
       by None (d ∷ ds) h more = (h.0.0, h.0.1, more (key_with o.extent d.1 ∷ keys) ds h.1)
 
-  -- a new object's key was drawn
-  abbrev pub IsBorn : Item → Both → Type 0
-  IsBorn i b = i.is_new ≡ true → IsDrawn b.objects t.p.0 i.key
+  pub free_for : (keys : List Key) (os : List ToSave) (ds : Drawn) (b : Both) → Drew keys os ds b → AreFree is_live known keys os ds
+  free_for keys [] ds b h = tt
+  free_for keys (o ∷ os) ds b h = by o.id ds h (λ ks e. free_for ks os e b)
+    where
+      by : (x : Option (List ℕ)) (ds : Drawn) → DrewBy o.number o.extent (λ ks e c. Drew ks os e c) keys x ds b → ((ks : List Key) (e : Drawn) → Drew ks os e b → AreFree is_live known ks os e)
+          → FreeBy is_live known o.extent (λ ks e. AreFree is_live known ks os e) keys x ds
+      by (Some id) ds h more = more keys ds h
+      by None [] h more = absurd h
+      by None (d ∷ ds) h more = (h.0.2, more (key_with o.extent d.1 ∷ keys) ds h.1)
 
-  abbrev itemed : (Drawn → List Item) → Drawn → ToSave → Option (List ℕ) → Drawn → List Item
-  itemed rest all o x ds = Rattle.object_calls.specs.Saves.keyed rest all o x ds
-
-  pub are_born : (all : Drawn) (keys : List Key) (os : List ToSave) (ds : Drawn) (b : Both) → Drew keys os ds b → Each (λ i. IsBorn i b) (items_from all os ds)
+  pub are_born : (all : Drawn) (keys : List Key) (os : List ToSave) (ds : Drawn) (b : Both) → Drew keys os ds b → Each (λ i. IsBorn t steady is_live i b) (items_from all os ds)
   are_born all keys [] ds b h = tt
   are_born all keys (o ∷ os) ds b h = by o.id ds h (λ ks e. are_born all ks os e b)
     where
-      by : (x : Option (List ℕ)) (ds : Drawn) → DrewBy o.number o.extent (λ ks e c. Drew ks os e c) keys x ds b → ((ks : List Key) (e : Drawn) → Drew ks os e b → Each (λ i. IsBorn i b) (items_from all os e)) → Each (λ i. IsBorn i b) (itemed (items_from all os) all o x ds)
+      by : (x : Option (List ℕ)) (ds : Drawn) → DrewBy o.number o.extent (λ ks e c. Drew ks os e c) keys x ds b → ((ks : List Key) (e : Drawn) → Drew ks os e b → Each (λ i. IsBorn t steady is_live i b) (items_from all os e)) → Each (λ i. IsBorn t steady is_live i b) (itemed (items_from all os) all o x ds)
       by (Some id) ds h more = ((λ e. absurd (cc e)), more keys ds h)
       by None [] h more = absurd h
       by None (d ∷ ds) h more = ((λ e. h.0.3), more (key_with o.extent d.1 ∷ keys) ds h.1)
-
-  pub are_high : (all : Drawn) (os : List ToSave) (ds : Drawn) → Each (λ (o : ToSave). nat_lt 0 o.level ≡ true) os → Each (λ (i : Item). nat_lt 0 i.level ≡ true) (items_from all os ds)
-  are_high all [] ds h = tt
-  are_high all (o ∷ os) ds h = by o.id ds (λ e. are_high all os e h.1)
-    where
-      by : (x : Option (List ℕ)) (ds : Drawn) → ((e : Drawn) → Each (λ (i : Item). nat_lt 0 i.level ≡ true) (items_from all os e)) → Each (λ (i : Item). nat_lt 0 i.level ≡ true) (itemed (items_from all os) all o x ds)
-      by (Some id) ds more = (h.0, more ds)
-      by None [] more = tt
-      by None (d ∷ ds) more = (h.0, more ds)
 
   -- ---- no key stands twice
 
@@ -209,7 +244,7 @@ module _ (t : Setting) (steady : IsSteadySetting t) (is_live : Key → Bool) whe
           → changes (change_of (itemed (items_from all os) all o x ds)) k ≡ false
       by (Some id) is ds h more = neither (is_key k (key_with o.extent id)) _ (old_apart id is none.0) (more keys ds h)
       by None is [] h more = absurd h
-      by None is (d ∷ ds) h more = neither (is_key k (key_with o.extent d.1)) _ (live_apart k (key_with o.extent d.1) live (or_left (is_live (key_with o.extent d.1)) _ h.0.2)) (more (key_with o.extent d.1 ∷ keys) ds h.1)
+      by None is (d ∷ ds) h more = neither (is_key k (key_with o.extent d.1)) _ (live_apart k (key_with o.extent d.1) live (or_left (is_live (key_with o.extent d.1)) _ h.0.2.0)) (more (key_with o.extent d.1 ∷ keys) ds h.1)
 
   any_at : (k j : Key) (keys : List Key) → list_any (is_key j) keys ≡ false → Has k keys → is_key k j ≡ false
   any_at k j [] e h = absurd h
@@ -225,7 +260,7 @@ module _ (t : Setting) (steady : IsSteadySetting t) (is_live : Key → Bool) whe
           → ((ks : List Key) (e : Drawn) → Has k ks → Drew ks os e b → changes (change_of (items_from all os e)) k ≡ false) → changes (change_of (itemed (items_from all os) all o x ds)) k ≡ false
       by (Some id) live ds h more = neither (is_key k (key_with o.extent id)) _ (apart_key k (key_with o.extent id) (λ same. cc (sym new ∙ ap is_live same ∙ live))) (more keys ds has h)
       by None live [] h more = absurd h
-      by None live (d ∷ ds) h more = neither (is_key k (key_with o.extent d.1)) _ (any_at k (key_with o.extent d.1) keys (or_right (is_live (key_with o.extent d.1)) _ h.0.2) has) (more (key_with o.extent d.1 ∷ keys) ds (inr has) h.1)
+      by None live (d ∷ ds) h more = neither (is_key k (key_with o.extent d.1)) _ (any_at k (key_with o.extent d.1) keys (or_right (is_live (key_with o.extent d.1)) _ h.0.2.0) has) (more (key_with o.extent d.1 ∷ keys) ds (inr has) h.1)
 
   pub are_distinct : (all : Drawn) (keys : List Key) (os : List ToSave) (ds : Drawn) (b : Both) → Each (λ (o : ToSave). IsLive is_live o.extent o.id) os → AreApart os → Drew keys os ds b → AreDistinct (change_of (items_from all os ds))
   are_distinct all keys [] ds b lives apart h = tt
@@ -236,4 +271,4 @@ module _ (t : Setting) (steady : IsSteadySetting t) (is_live : Key → Bool) whe
       by (Some id) live none ds h more = (none_live all keys os ds b (key_with o.extent id) live none h, more keys ds h)
       by None live none [] h more = absurd h
       by None live none (d ∷ ds) h more =
-          (none_drawn all (key_with o.extent d.1 ∷ keys) os ds b (key_with o.extent d.1) (or_left (is_live (key_with o.extent d.1)) _ h.0.2) (inl refl) lives.1 h.1, more (key_with o.extent d.1 ∷ keys) ds h.1)
+          (none_drawn all (key_with o.extent d.1 ∷ keys) os ds b (key_with o.extent d.1) (or_left (is_live (key_with o.extent d.1)) _ h.0.2.0) (inl refl) lives.1 h.1, more (key_with o.extent d.1 ∷ keys) ds h.1)

@@ -37,7 +37,7 @@ use Rattle.saving_rules.proofs.Lists.{each_to, each_has, has_each, each_map}
 use Rattle.saving_rules.proofs.Works.{items_in, puts, IsWork, first_of, later_of}
 use Rattle.saving_rules.proofs.Facts.{IsSteadySetting, three_facts, taken_fact}
 use Rattle.good_saves.proofs.Writes.{keys_same, sides_same, IsReady, AllReady, does_kill_entries, TakenFrom, does_writes}
-use Rattle.good_saves.proofs.Draws.{Drew, does_draw, ids_for, IsBorn, are_born, are_high, are_distinct}
+use Rattle.good_saves.proofs.Draws.{Drew, does_draw, ids_for, free_for, IsBorn, are_born, are_high, are_distinct}
 use Rattle.good_saves.proofs.Looks.{does_rows, IsLocked, IsSeen, KnownBy, does_looks, IsKnown, known_fact, items_same, all_known, are_works, born_fact}
 use Rattle.good_saves.proofs.Commits.{is_written, is_safe}
 use Rattle.good_saves.proofs.Targets.{AllLocked, all_locked_fact, does_lock_keys, AllKnown, all_known_fact, AllMet, all_met_fact, TargetsFit, does_test_targets}
@@ -310,13 +310,13 @@ module _ (t : Setting) (schema : IsStorableSchema t.classes) (steady : IsSteadyS
         let may : MayCome t.classes t.Facts b'.store b'.objects t.p RollbackOne Fails = ((i.now, i.is), refl) in
         (may, (tells.fails _ _ _ _, (idle_next t b' RollbackOne Fails i.whole (live, inr may) refl, tt)))
 
-    drawn_by : (a : Tried Drawn) (b : Both) → Post t (λ ds b. Drew t steady is_live' [] os ds b) [] Knowing a b → Fits t (save_drawn t.classes tries most os a) Leaves b
+    drawn_by : (a : Tried Drawn) (b : Both) → Post t (λ ds b. Drew t steady is_live' known [] os ds b) [] Knowing a b → Fits t (save_drawn t.classes tries most os a) Leaves b
     drawn_by (Got drawn) b m =
         let items = items_of drawn os in
-        let ids = ids_for t steady is_live' [] os drawn b m.1 in
+        let ids = ids_for t steady is_live' known [] os drawn b m.1 in
         meets_bind t (save_items t.classes tries most (items_of drawn os)) (save_ends t.classes tries most drawn (items_of drawn os)) (Saved (items_of drawn os)) Leaves b (ends drawn)
-        (meets_items (items_of drawn os) (can.fits drawn ids) (are_high t steady is_live' drawn os drawn can.levels) (are_distinct t steady is_live' drawn [] os drawn b can.live can.apart m.1) b m.0
-        (are_born t steady is_live' drawn [] os drawn b m.1, m.2))
+        (meets_items (items_of drawn os) (can.fits drawn ids (free_for t steady is_live' known [] os drawn b m.1)) (are_high t steady is_live' drawn os drawn can.levels) (are_distinct t steady is_live' known drawn [] os drawn b can.live can.apart m.1) b m.0
+        (are_born t steady is_live' known drawn [] os drawn b m.1, m.2))
     drawn_by (Lost x) b m = λ es others fit live.
         let b' = after_all b es in
         let i = in_all t b es m.0 others fit m.1 in
@@ -354,8 +354,8 @@ module _ (t : Setting) (schema : IsStorableSchema t.classes) (steady : IsSteadyS
         (λ e. subst (λ r. Fits t (save_begun t.classes tries most is_live' os r) Leaves (next b t.p Begin Opens)) (sym e)
         (tells.fails _ _ _ _, (idle_next t b Begin Opens i.whole (live, inr (i.is, refl)) (ap (λ r. Rattle.object_runs.specs.ObjectMachine.opened r (desk_at b.objects t.p.0).lists) e), tt)))
         (λ g. subst (λ r. Fits t (save_begun t.classes tries most is_live' os r) Leaves (next b t.p Begin Opens)) (sym g.1)
-        (meets_bind t (draw is_live' [] os) (save_drawn t.classes tries most os) (Post t (λ ds b. Drew t steady is_live' [] os ds b) [] Knowing) Leaves (next b t.p Begin Opens) drawn_by
-        (does_draw t steady is_live' os can.extents [] Knowing knowing_fact (next b t.p Begin Opens) (begun_in b i live g.0 g.1) tt (known_then b i live h))))
+        (meets_bind t (draw is_live' [] os) (save_drawn t.classes tries most os) (Post t (λ ds b. Drew t steady is_live' known [] os ds b) [] Knowing) Leaves (next b t.p Begin Opens) drawn_by
+        (does_draw t steady is_live' known os can.extents [] Knowing knowing_fact (next b t.p Begin Opens) (begun_in b i live g.0 g.1) (known_then b i live h) (known_then b i live h))))
         (begin_reply b.store)
 
     -- a save leaves the process within no save or delete

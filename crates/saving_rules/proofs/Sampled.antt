@@ -139,5 +139,5 @@ worked_can_be_saved = record {
   levels = (refl, (refl, (refl, tt)));
   live = (tt, (refl, (refl, tt)));
   apart = (tt, ((inr (1 ∷ [], refl, refl), tt), (tt, tt)));
-  fits = fits;
+  fits = λ drawn ids free. fits drawn ids;
 }

@@ -1,5 +1,5 @@
 -- What is asked of the objects of a save, and of what the process knows.
-use Rattle.std.specs.Prelude.{◌≡◌, ◌⊎◌, ◌<◌, ◌^◌, ℕ, suc, Bool, true, false, nat_lt, List, [], ◌∷◌, Option, None, Some}
+use Rattle.std.specs.Prelude.{◌≡◌, ◌||◌, ◌⊎◌, ◌<◌, ◌^◌, ℕ, suc, Bool, true, false, nat_lt, List, [], ◌∷◌, Option, None, Some}
 use Rattle.std.specs.List.{list_any}
 use Rattle.obj_kinds.specs.declared.name.ClassName.{ClassName}
 use Rattle.schema_kinds.specs.declared.class.Class.{Class}
@@ -32,6 +32,20 @@ AreIdsFor (o ∷ os) ds = IdsFor (AreIdsFor os) o o.id ds
 
 abbrev pub key_with : ClassName → List ℕ → Key
 key_with extent id = record { extent = extent; id = id }
+
+-- a key that no live object has, none of these, and none that the process knows
+abbrev pub IsFree : (Key → Bool) → List (Key × ClassName) → List Key → Key → Type 0
+IsFree is_live known keys key = ((is_live key || list_any (is_key key) keys) ≡ false) × (list_any (λ (k : Key × ClassName). is_key key k.0) known ≡ false)
+
+abbrev pub FreeBy : (Key → Bool) → List (Key × ClassName) → ClassName → (List Key → Drawn → Type 0) → List Key → Option (List ℕ) → Drawn → Type 0
+FreeBy is_live known extent rest keys (Some id) ds = rest keys ds
+FreeBy is_live known extent rest keys None [] = ⊥
+FreeBy is_live known extent rest keys None (d ∷ ds) = IsFree is_live known keys (key_with extent d.1) × rest (key_with extent d.1 ∷ keys) ds
+
+-- the keys of the new objects are such, each beside those drawn before
+abbrev pub AreFree : (Key → Bool) → List (Key × ClassName) → List Key → List ToSave → Drawn → Type 0
+AreFree is_live known keys [] ds = Unit {0}
+AreFree is_live known keys (o ∷ os) ds = FreeBy is_live known o.extent (λ ks e. AreFree is_live known ks os e) keys o.id ds
 
 -- an object that isn't new is a live one
 abbrev pub IsLive : (Key → Bool) → ClassName → Option (List ℕ) → Type 0
@@ -69,5 +83,5 @@ pub record CanBeSaved (classes : List Class) (is_live : Key → Bool) (known : L
   pub levels : Each (λ (o : ToSave). nat_lt 0 o.level ≡ true) os
   pub live : Each (λ (o : ToSave). IsLive is_live o.extent o.id) os
   pub apart : AreApart os
-  -- with whatever ids are drawn
-  pub fits : (drawn : Drawn) → AreIdsFor os drawn → Each (FitsItem classes known (items_of drawn os)) (items_of drawn os)
+  -- with whatever ids may be drawn
+  pub fits : (drawn : Drawn) → AreIdsFor os drawn → AreFree is_live known [] os drawn → Each (FitsItem classes known (items_of drawn os)) (items_of drawn os)
