@@ -80,9 +80,13 @@ module _ (classes : List Class) (m : Memory) (good : IsGood classes m) where
   tighten-fits : (o : Object) → FitsSchema classes m o → FitsSchema classes m (tighten o)
   tighten-fits o h = record { class = h.class; extent = h.extent; id = h.id; level = h.level; slots = h.slots }
 
+  -- also where no object has the number
+  pub tight-good : (n : ℕ) → IsGood classes (edited m n tighten)
+  tight-good n = good-edited n tighten tighten-keeps (λ o at. tighten-fits o (fits-at classes m n o good.fits at))
+
   pub held-keeps : (n : ℕ) → IsSome (object_of n m.objects) → Keeps classes m (edited m n tighten) (n ∷ []) []
   held-keeps n live = record {
-    good = good-edited n tighten tighten-keeps (λ o at. tighten-fits o (fits-at classes m n o good.fits at));
+    good = tight-good n;
     holds = λ k. omega (arith, held-holds m n live k);
   }
 

@@ -1,20 +1,17 @@
 -- A set of a part keeps the memory: the copy of the part stands there, with the objects that it has of its own.
-use Rattle.std.proofs.Common.{◌≡◌, ◌<◌, ◌≤◌, ℕ, suc, ◌+◌, List, [], ◌∷◌, ◌++◌, length, None, Some, IsSome, refl, ap, sym, subst, ◌∙◌, arith}
+use Rattle.std.proofs.Common.{◌≡◌, ◌≤◌, ℕ, ◌+◌, List, [], ◌∷◌, ◌++◌, length, None, Some, refl, ap, sym, subst, ◌∙◌, arith}
 use Rattle.std.specs.Option.{IsSomeAnd}
 use Rattle.std.specs.List.{AllByRecursion}
 use Rattle.obj_kinds.specs.declared.name.ClassName.{ClassName}
 use Rattle.obj_kinds.specs.declared.id.Id.{Id}
 use Rattle.schema_kinds.specs.declared.class.Class.{Class}
-use Rattle.schema_kinds.specs.Classes.{extent_of}
 use Rattle.oref_table.specs.declared.obj.NewObj.{NewObj}
-use Rattle.oref_table.specs.declared.oref.Held.{Held}
 use Rattle.oref_table.specs.Refs.{times}
-use Rattle.oref_table.specs.Memory.{Object, Memory, object_of, object_refs, refs_among, outside_of, tighten}
+use Rattle.oref_table.specs.Memory.{Object, Memory, object_of, object_refs, refs_among}
 use Rattle.oref_table.specs.Sound.{AreRising, HasKey, IsFree, AreSingle, IsSound}
 use Rattle.obj_shape.specs.Fitting.{FitsSchema, TableFits}
 use Rattle.obj_shape.specs.Wholeness.{IsWhole}
-use Rattle.obj_shape.proofs.FitLaws.{fits-at}
-use Rattle.part_copies.specs.Copies.{Copies, part_object, objects_from, first_held, with_copies}
+use Rattle.part_copies.specs.Copies.{Copies, objects_from, first_held, with_copies}
 use Rattle.part_copies.specs.Making.{AreCopies, copy_of}
 use Rattle.part_copies.proofs.FitCopies.{copies-fit}
 use Rattle.part_copies.proofs.MakeCopies.{are-copies}

@@ -51,7 +51,7 @@ slot-same f (Some at) o = by (slice_get o.slots at)
     by (Some s) = record { number = refl; class = refl; extent = refl; id = refl; outside = refl }
 
 -- what is good at a place is a property's
-good-get : (P : Prop → Slot → Type 0) (props : List Prop) (slots : List Slot) (at : ℕ) (s : Slot) → AreGood P props slots → slice_get slots at ≡ Some s → (p : Prop) × (slice_get props at ≡ Some p) × P p s
+pub good-get : (P : Prop → Slot → Type 0) (props : List Prop) (slots : List Slot) (at : ℕ) (s : Slot) → AreGood P props slots → slice_get slots at ≡ Some s → (p : Prop) × (slice_get props at ≡ Some p) × P p s
 good-get P [] [] at s h e = cc
 good-get P [] (t ∷ ts) at s h e = absurd h
 good-get P (q ∷ qs) [] at s h e = absurd h

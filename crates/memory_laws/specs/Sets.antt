@@ -1,41 +1,28 @@
 -- Sets of properties keep the memory of a process.
-use Rattle.std.specs.Prelude.{◌≡◌, ℕ, IsTrue, List, [], Option, Some, slice_get}
+use Rattle.std.specs.Prelude.{◌≡◌, ℕ, List, [], Option, Some, slice_get}
 use Rattle.obj_kinds.specs.declared.name.ClassName.{ClassName}
-use Rattle.obj_kinds.specs.declared.value.Value.{Value}
-use Rattle.obj_kinds.specs.declared.value.Value.TheOpen.{Value-F}
-use Rattle.obj_kinds.specs.declared.value.Value.TheViews.{out-Value}
-use Rattle.obj_kinds.specs.Limits.{is_legal_text}
 use Rattle.schema_kinds.specs.declared.class.Class.{Class}
 use Rattle.schema_kinds.specs.declared.prop.Prop.{Prop}
 use Rattle.schema_kinds.specs.declared.kind.Kind.{Kind}
 use Rattle.schema_kinds.specs.declared.kind.Kind.TheVariants as kind
-use Rattle.schema_kinds.specs.declared.kind.Item.TheVariants as of
 use Rattle.schema_kinds.specs.Classes.{class_of, props_of, IsBelow}
-use Rattle.record_layout.specs.Shapes.{Form, single, form_of}
+use Rattle.schema_kinds.specs.declared.kind.Item.{Item}
+use Rattle.record_layout.specs.Shapes.{form_of}
 use Rattle.oref_table.specs.declared.slot.Slot.{Slot}
+use Rattle.oref_table.specs.declared.slot.Slot.TheViews.{out-Slot}
 use Rattle.oref_table.specs.declared.fill.Fill.{Fill}
-use Rattle.oref_table.specs.declared.fill.Fill.TheVariants as fill
 use Rattle.oref_table.specs.Memory.{Object, Memory, object_of}
 use Rattle.oref_table.specs.Filling.{passed}
-use Rattle.obj_shape.specs.Fitting.{IsSlotOf}
+use Rattle.obj_shape.specs.Fitting.{IsElement, IsSlotOf}
 use Rattle.obj_shape.specs.Wholeness.{IsWhole}
 use Rattle.obj_props.specs.Properties.{prop_place}
-use Rattle.prop_setting.specs.Elements.{oref_text}
+use Rattle.prop_setting.specs.Elements.{Takes, standing, stood}
 use Rattle.prop_setting.specs.Sets.{FormSets}
 use Rattle.object_calls.specs.Keys.{ManySide}
 use Rattle.object_members.specs.Seeing.{memories, many_place}
+use Rattle.object_members.specs.SetLaws.{IsLegalFill, IsLegalAs}
 use Rattle.object_members.specs.Writes.{one_side_set}
 use Rattle.memory_laws.specs.Kept.{IsGood, Keeps}
-
--- a text within the limits, also where an OREF is taken as one
-abbrev pub IsLegalIfText : Value-F Value → Type 0
-IsLegalIfText (Value-F.Str text) = IsTrue (is_legal_text text)
-IsLegalIfText (Value-F.List vs) = Unit {0}
-
-abbrev pub IsLegalFill : Memory → Fill → Type 0
-IsLegalFill m (fill.Plain v) = IsLegalIfText (out-Value v)
-IsLegalFill m (fill.To h) = IsTrue (is_legal_text (oref_text m h.number))
-IsLegalFill m _ = Unit {0}
 
 -- a property of one element is set, a part too, and the hold on what is set is the set's from then on
 abbrev pub SetsKeep : Type 0
@@ -43,6 +30,21 @@ SetsKeep =
     (classes : List Class) (m : Memory) (o : Object) (at : ℕ) (p : Prop) (w : Fill) (new : Memory) → IsWhole classes → IsGood classes m → object_of o.number m.objects ≡ Some o
     → slice_get (props_of (class_of classes o.class)) at ≡ Some p → IsLegalFill m w → FormSets classes m o.number at o.level (form_of p.kind) w new
     → Keeps classes m new [] (passed w)
+
+-- each object is still there, as it was
+abbrev pub HasAllOf : Memory → Memory → Type 0
+HasAllOf m w = (n : ℕ) (o : Object) → object_of n m.objects ≡ Some o → object_of n w.objects ≡ Some o
+
+-- what fits as an element, then fits the property as a part of this whole
+abbrev pub IsShapeFor : List Class → Memory → Prop → Item → (Slot → Slot) → Type 0
+IsShapeFor classes m p i shape = (w : Memory) (t : Slot) → HasAllOf m w → IsElement classes w i (out-Slot t) → IsSlotOf classes w p (shape t)
+
+-- an element is set as a part of the whole that stands in the slot, as the slot itself or as one of a list or of an array
+abbrev pub ElementsKeep : Type 0
+ElementsKeep =
+    (classes : List Class) (m : Memory) (o : Object) (at : ℕ) (p : Prop) (i : Item) (shape : Slot → Slot) (w : Fill) → IsWhole classes → IsGood classes m → object_of o.number m.objects ≡ Some o
+    → slice_get (props_of (class_of classes o.class)) at ≡ Some p → IsShapeFor classes m p i shape → IsLegalAs m i w → Takes classes m i w
+    → Keeps classes m (stood o.number at shape (standing classes m o.level i w)) [] (passed w)
 
 -- a property of that kind has objects of the class as members, or may name them
 abbrev pub HasMembersOf : List Class → ClassName → Kind → Type 0

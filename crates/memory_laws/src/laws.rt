@@ -2,8 +2,8 @@
 
 ghost use Rattle.memory_laws.specs.Made.{NewObjectsKeep, LoadedObjectsKeep, SavedObjectsKeep};
 ghost use Rattle.memory_laws.specs.Kept.{StartsGood, PlacesKeep, CallsKeep, SlotSetsKeep};
-ghost use Rattle.memory_laws.specs.Sets.{SetsKeep, OneSidesKeep, MembersKeep};
-ghost use Rattle.memory_laws.specs.Writes.{WritesKeep};
+ghost use Rattle.memory_laws.specs.Sets.{SetsKeep, ElementsKeep, OneSidesKeep, MembersKeep};
+ghost use Rattle.memory_laws.specs.Writes.{WritesCome, WritesKeep};
 
 /// A process begins with a good memory, which nothing holds.
 pub fn memory_starts_good()
@@ -32,6 +32,12 @@ pub fn sets_of_properties_keep_memory()
     ensures { SetsKeep }
 {}
 
+/// An element is set, as a property of one element or as one of a list or of an array: the hold on what is set is the set's from then on,
+/// and memory stays good.
+pub fn elements_keep_memory()
+    ensures { ElementsKeep }
+{}
+
 /// A one side is set: the touched members of its targets are kept in step, and memory stays good.
 pub fn one_sides_keep_memory()
     ensures { OneSidesKeep }
@@ -56,6 +62,12 @@ pub fn loaded_objects_keep_memory()
 /// objects come to have one key.
 pub fn saved_objects_keep_memory()
     ensures { SavedObjectsKeep }
+{}
+
+/// A set that a process asks for asks no operation: it is done, and the property has what stands there by the rules of sets, or it is
+/// refused with an error and changes nothing.
+pub fn writes_are_done_or_refused()
+    ensures { WritesCome }
 {}
 
 /// A set that a process asks for, whether it is done or refused, leaves a good memory and holds outside as they were, where the schema's

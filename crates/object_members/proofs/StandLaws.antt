@@ -33,24 +33,28 @@ use Rattle.object_members.specs.Seeing.{class_name_part, props_at}
 use Rattle.object_members.specs.Ends.{with_memory, errs}
 use Rattle.object_members.specs.Standing.{fill_with, held_for, is_text, is_empty_text, is_class_for, value_takes, object_takes, takes, stands}
 use Rattle.object_members.specs.Writes.{prop_set, writes_standing, writes_form, writes_prop, writes_place, writes_of, write_prop}
-use Rattle.object_members.specs.SetLaws.{TakesByTheRules, IsNoOneSide, NamesNoOneSide, SetsByTheRules, RefusesByTheRules}
+use Rattle.object_members.specs.SetLaws.{IsLegalIfText, IsLegalFill, IsLegalAs, TakesByTheRules, IsNoOneSide, NamesNoOneSide, SetsByTheRules, RefusesByTheRules}
 
 -- ---- what is taken
 
-texts : (x : Value-F Value) → (is_text x ≡ true) ↔ IsText x
-texts (Value-F.Str t) = ((λ h. tt), (λ h. refl))
-texts (Value-F.List vs) = ((λ h. cc), (λ no. absurd no))
+texts : (x : Value-F Value) → (is_text x ≡ true) ↔ (IsText x × IsLegalIfText x)
+texts (Value-F.Str t) = ((λ h. (tt, h)), (λ h. h.1))
+texts (Value-F.List vs) = ((λ h. cc), (λ h. absurd h.0))
 
 empties : (x : Value-F Value) → (is_empty_text x ≡ true) ↔ IsEmptyText x
 empties (Value-F.Str []) = ((λ h. refl), (λ h. refl))
 empties (Value-F.Str (b ∷ t)) = ((λ h. cc), (λ h. cc))
 empties (Value-F.List vs) = ((λ h. cc), (λ no. absurd no))
 
-values : (w : Fill) → (value_takes w ≡ true) ↔ ValueTakes w
-values (fill.Plain v) = texts (out-Value v)
-values (fill.To h) = ((λ h. tt), (λ h. refl))
-values (fill.Target id) = ((λ h. cc), (λ no. absurd no))
-values fill.Nothing = ((λ h. cc), (λ no. absurd no))
+values : (m : Memory) (w : Fill) → (value_takes m w ≡ true) ↔ (ValueTakes w × IsLegalFill m w)
+values m (fill.Plain v) = texts (out-Value v)
+values m (fill.To a) = ((λ h. (tt, h)), (λ h. h.1))
+values m (fill.Target id) = ((λ h. cc), (λ h. absurd h.0))
+values m fill.Nothing = ((λ h. cc), (λ h. absurd h.0))
+
+-- of an object nothing else is asked
+with_nothing : {A B : Type 0} → A ↔ B → A ↔ (B × Unit {0})
+with_nothing h = ((λ a. (h.0 a, tt)), (λ b. h.1 b.0))
 
 same_class : (a c : ClassName) → (same_text a.0 c.0 ≡ true) ↔ (a ≡ c)
 same_class a c = ((λ h. ap (λ t. record { 0 = t }) (same_text-is a.0 c.0 h)), (λ e. is-same_text a.0 c.0 (ap (λ x. x.0) e)))
@@ -73,11 +77,18 @@ objects classes m i (fill.Target id) = ((λ h. cc), (λ no. absurd no))
 objects classes m i fill.Nothing = ((λ h. cc), (λ no. absurd no))
 
 pub takes_by_rules : TakesByTheRules
-takes_by_rules classes m of.Text w = values w
-takes_by_rules classes m of.Whole w = values w
-takes_by_rules classes m of.Truth w = values w
-takes_by_rules classes m (of.Ref c) w = objects classes m (of.Ref c) w
-takes_by_rules classes m (of.Serial c) w = objects classes m (of.Serial c) w
+takes_by_rules classes m of.Text w = values m w
+takes_by_rules classes m of.Whole w = values m w
+takes_by_rules classes m of.Truth w = values m w
+takes_by_rules classes m (of.Ref c) w = with_nothing (objects classes m (of.Ref c) w)
+takes_by_rules classes m (of.Serial c) w = with_nothing (objects classes m (of.Serial c) w)
+
+pub legal-as : (m : Memory) (i : Item) (w : Fill) → IsLegalFill m w → IsLegalAs m i w
+legal-as m of.Text w h = h
+legal-as m of.Whole w h = h
+legal-as m of.Truth w h = h
+legal-as m (of.Ref c) w h = tt
+legal-as m (of.Serial c) w h = tt
 
 -- ---- the object that is set, without the hold that the frame has
 
@@ -133,21 +144,21 @@ module _ (classes : List Class) (s : Known Memory) (v : Val) where
   abbrev held : Memory
   held = held_for v s.memory
 
-  form_set : (o : Object) (at : ℕ) (k : Kind) (f : Option Form) (new : Memory) → IsNoOneSide k → FormSets classes held o.number at o.level f (fill_with v) new
+  form_set : (o : Object) (at : ℕ) (k : Kind) (f : Option Form) (new : Memory) → IsNoOneSide k → IsLegalFill held (fill_with v) → FormSets classes held o.number at o.level f (fill_with v) new
       → writes_form classes o at k f v s ≡ Give (with_memory new s, answer.Done)
-  form_set o at k None new other h = absurd h
-  form_set o at k (Some (single i)) new other h =
-      ap (λ b. writes_standing classes o at k i (cond b (Some (standing classes held o.level i (fill_with v))) None) s) ((takes_by_rules classes held i (fill_with v)).1 h.0)
+  form_set o at k None new other legal h = absurd h
+  form_set o at k (Some (single i)) new other legal h =
+      ap (λ b. writes_standing classes o at k i (cond b (Some (standing classes held o.level i (fill_with v))) None) s) ((takes_by_rules classes held i (fill_with v)).1 (h.0, legal-as held i (fill_with v) legal))
       ∙ ap (λ m. Give (with_memory m s, answer.Done)) (plain_set classes o at k (standing classes held o.level i (fill_with v)) other ∙ sym h.1)
-  form_set o at k (Some (listed i)) new other h = absurd h
-  form_set o at k (Some (keyed i)) new other h = absurd h
+  form_set o at k (Some (listed i)) new other legal h = absurd h
+  form_set o at k (Some (keyed i)) new other legal h = absurd h
 
   form_refused : (o : Object) (at : ℕ) (k : Kind) (f : Option Form) (e : ErrorName) → FormRefuses classes held f (fill_with v) e → writes_form classes o at k f v s ≡ Give (s, answer.Error e)
   form_refused o at k None e h = ap (λ x. errs s x) (sym h)
   form_refused o at k (Some (single i)) e h = by (takes classes held i (fill_with v)) refl
     where
       by : (b : Bool) → takes classes held i (fill_with v) ≡ b → writes_standing classes o at k i (cond b (Some (standing classes held o.level i (fill_with v))) None) s ≡ Give (s, answer.Error e)
-      by true is = absurd (h.0 ((takes_by_rules classes held i (fill_with v)).0 is))
+      by true is = absurd (h.0 ((takes_by_rules classes held i (fill_with v)).0 is).0)
       by false is = ap (λ x. errs s x) (sym h.1)
   form_refused o at k (Some (listed i)) e h = ap (λ x. errs s x) (sym h)
   form_refused o at k (Some (keyed i)) e h = ap (λ x. errs s x) (sym h)
@@ -160,10 +171,10 @@ module _ (classes : List Class) (s : Known Memory) (v : Val) where
   place_refused o None e h = ap (λ x. errs s x) (sym h)
   place_refused o (Some at) e h = prop_refused o at (slice_get (props_at classes o.class) at) e h
 
-  set_there : (n : ℕ) (name : Name) (new : Memory) → NamesNoOneSide classes s.memory n name → (o : Object) (at : ℕ) (p : Prop) → prop_place name (props_at classes o.class) ≡ Some at
+  set_there : (n : ℕ) (name : Name) (new : Memory) → NamesNoOneSide classes s.memory n name → IsLegalFill held (fill_with v) → (o : Object) (at : ℕ) (p : Prop) → prop_place name (props_at classes o.class) ≡ Some at
       → slice_get (props_at classes o.class) at ≡ Some p → FormSets classes held n at o.level (form_of p.kind) (fill_with v) new → WasThere s.memory n o
       → writes_of classes name v (object_of n s.memory.objects) s ≡ Give (with_memory new s, answer.Done)
-  set_there n name new plain o at p place there sets was =
+  set_there n name new plain legal o at p place there sets was =
       let number : was.was.number ≡ n = object-number n s.memory.objects was.was was.found in
       let place_was : prop_place name (props_at classes was.was.class) ≡ Some at = subst (λ c. prop_place name (props_at classes c) ≡ Some at) (sym was.class) place in
       let there_was : slice_get (props_at classes was.was.class) at ≡ Some p = subst (λ c. slice_get (props_at classes c) at ≡ Some p) (sym was.class) there in
@@ -171,7 +182,7 @@ module _ (classes : List Class) (s : Known Memory) (v : Val) where
       let sets_was : FormSets classes held was.was.number at was.was.level (form_of p.kind) (fill_with v) new =
       subst (λ l. FormSets classes held was.was.number at l (form_of p.kind) (fill_with v) new) (sym was.level) sets_n in
       ap (λ x. writes_of classes name v x s) was.found ∙ ap (λ x. writes_place classes was.was x v s) place_was ∙ ap (λ x. writes_prop classes was.was at x v s) there_was
-      ∙ form_set was.was at p.kind (form_of p.kind) new (plain was.was at p was.found place_was there_was) sets_was
+      ∙ form_set was.was at p.kind (form_of p.kind) new (plain was.was at p was.found place_was there_was) legal sets_was
 
   refused_there : (n : ℕ) (name : Name) (e : ErrorName) (o : Object) → PlaceRefuses classes held (named_prop classes o name) (fill_with v) e → WasThere s.memory n o
       → writes_of classes name v (object_of n s.memory.objects) s ≡ Give (s, answer.Error e)
@@ -182,7 +193,7 @@ module _ (classes : List Class) (s : Known Memory) (v : Val) where
 
 pub sets_by_rules : SetsByTheRules
 unfolding write_prop
-sets_by_rules classes s n name v new plain h = set_there classes s v n name new plain h.0 h.1 h.2 h.4 h.5 h.6 (was-there s.memory v n h.0 h.3)
+sets_by_rules classes s n name v new plain legal h = set_there classes s v n name new plain legal h.0 h.1 h.2 h.4 h.5 h.6 (was-there s.memory v n h.0 h.3)
 
 pub refuses_by_rules : RefusesByTheRules
 unfolding write_prop

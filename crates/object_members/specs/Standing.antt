@@ -4,6 +4,7 @@ use Rattle.obj_kinds.specs.declared.name.ClassName.{ClassName}
 use Rattle.obj_kinds.specs.declared.value.Value.{Value}
 use Rattle.obj_kinds.specs.declared.value.Value.TheOpen.{Value-F}
 use Rattle.obj_kinds.specs.declared.value.Value.TheViews.{out-Value}
+use Rattle.obj_kinds.specs.Limits.{is_legal_text}
 use Rattle.obj_kinds.specs.Texts.{same_text}
 use Rattle.schema_kinds.specs.declared.class.Class.{Class}
 use Rattle.schema_kinds.specs.declared.kind.Item.{Item}
@@ -13,7 +14,7 @@ use Rattle.os_kinds.specs.declared.val.Val.TheVariants.{Data, Ref}
 use Rattle.oref_table.specs.declared.fill.Fill.{Fill}
 use Rattle.oref_table.specs.declared.fill.Fill.TheVariants as fill
 use Rattle.oref_table.specs.Memory.{Memory, edited, tighten}
-use Rattle.prop_setting.specs.Elements.{Standing, standing}
+use Rattle.prop_setting.specs.Elements.{Standing, standing, oref_text}
 use Rattle.object_calls.specs.Extents.{is_at_or_below}
 use Rattle.object_members.specs.Seeing.{class_at}
 
@@ -28,8 +29,9 @@ held_for (Ref number class) m = edited m number tighten
 
 -- ---- what an element takes
 
+-- a text within the limits
 abbrev pub is_text : Value-F Value → Bool
-is_text (Value-F.Str text) = true
+is_text (Value-F.Str text) = is_legal_text text
 is_text (Value-F.List vs) = false
 
 abbrev pub is_empty_text : Value-F Value → Bool
@@ -44,10 +46,10 @@ is_class_for classes (of.Serial c) (Some name) = same_text name.0 c.0
 is_class_for classes _ (Some name) = false
 
 -- a value takes a text, and an OREF, as its text
-abbrev pub value_takes : Fill → Bool
-value_takes (fill.Plain v) = is_text (out-Value v)
-value_takes (fill.To h) = true
-value_takes _ = false
+abbrev pub value_takes : Memory → Fill → Bool
+value_takes m (fill.Plain v) = is_text (out-Value v)
+value_takes m (fill.To h) = is_legal_text (oref_text m h.number)
+value_takes m _ = false
 
 -- a reference and a part take an object of a class for them, and the empty text
 abbrev pub object_takes : List Class → Memory → Item → Fill → Bool
@@ -56,9 +58,9 @@ object_takes classes m i (fill.To h) = is_class_for classes i (class_at m h.numb
 object_takes classes m i _ = false
 
 abbrev pub takes : List Class → Memory → Item → Fill → Bool
-takes classes m of.Text w = value_takes w
-takes classes m of.Whole w = value_takes w
-takes classes m of.Truth w = value_takes w
+takes classes m of.Text w = value_takes m w
+takes classes m of.Whole w = value_takes m w
+takes classes m of.Truth w = value_takes m w
 takes classes m (of.Ref c) w = object_takes classes m (of.Ref c) w
 takes classes m (of.Serial c) w = object_takes classes m (of.Serial c) w
 

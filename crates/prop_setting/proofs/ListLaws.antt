@@ -145,12 +145,12 @@ item-added m m1 w n at k f items added marked kept list =
 
 -- ---- what fits in a list
 
-each-set : {B : Type 0} (P : B → Type 0) (xs : List B) (k : ℕ) (x : B) → EachGood P xs → P x → EachGood P (slice_set xs k x)
+pub each-set : {B : Type 0} (P : B → Type 0) (xs : List B) (k : ℕ) (x : B) → EachGood P xs → P x → EachGood P (slice_set xs k x)
 each-set P [] k x h p = tt
 each-set P (y ∷ ys) zero x h p = (p, h.1)
 each-set P (y ∷ ys) (suc k) x h p = (h.0, each-set P ys k x h.1 p)
 
-each-both : {B : Type 0} (P : B → Type 0) (xs ys : List B) → EachGood P xs → EachGood P ys → EachGood P (xs ++ ys)
+pub each-both : {B : Type 0} (P : B → Type 0) (xs ys : List B) → EachGood P xs → EachGood P ys → EachGood P (xs ++ ys)
 each-both P [] ys h k = k
 each-both P (x ∷ xs) ys h k = (h.0, each-both P xs ys h.1 k)
 
@@ -166,10 +166,10 @@ each-drop P [] (suc k) h = tt
 each-drop P (x ∷ xs) zero h = h
 each-drop P (x ∷ xs) (suc k) h = each-drop P xs k h.1
 
-each-insert : {B : Type 0} (P : B → Type 0) (xs : List B) (k : ℕ) (x : B) → EachGood P xs → P x → EachGood P (insert xs k x)
+pub each-insert : {B : Type 0} (P : B → Type 0) (xs : List B) (k : ℕ) (x : B) → EachGood P xs → P x → EachGood P (insert xs k x)
 each-insert P xs k x h p = each-both P (take k xs) (x ∷ drop k xs) (each-take P xs k h) (p, each-drop P xs k h)
 
-each-remove : {B : Type 0} (P : B → Type 0) (xs : List B) (k : ℕ) → EachGood P xs → EachGood P (remove xs k)
+pub each-remove : {B : Type 0} (P : B → Type 0) (xs : List B) (k : ℕ) → EachGood P xs → EachGood P (remove xs k)
 each-remove P xs k h = each-both P (take k xs) (drop (suc k) xs) (each-take P xs k h) (each-drop P xs (suc k) h)
 
 pub out-Items : (slots : List Slot) → out-Slot (Items slots) ≡ Slot-F.Items slots

@@ -6,7 +6,7 @@ use Rattle.obj_kinds.specs.Subscript.{whole_of, is_number}
 use Rattle.obj_kinds.specs.IdReading.{part_in, id_in}
 use Rattle.obj_kinds.specs.NodeText.{node_text}
 use Rattle.obj_kinds.specs.Order.{node_cmp}
-use Rattle.obj_kinds.specs.Limits.{is_legal_node, is_legal_sub, is_sub_text, is_global_name}
+use Rattle.obj_kinds.specs.Limits.{is_legal_text, is_legal_node, is_legal_sub, is_sub_text, is_global_name}
 use Rattle.schema_kinds.specs.declared.record.Field as field
 use Rattle.schema_kinds.specs.Worlds.{key_cmp}
 use Rattle.record_layout.specs.Items.{row_field}
@@ -70,42 +70,42 @@ is_gone = codes "0 Gone 2"
 opens : (body : Block) (u : ℕ) (rs : List Reply) (go quit : Rest)
     → plays accounts 10 1000000 body (runs None 1000000 (command 0 dangling) [] go quit) (suc (suc (suc (suc u)))) at_first (reply.Granted ∷ ann_to_2_row ∷ reply.Done ∷ rs)
     ≡ take 4 keeps_dangling.sees ++ plays accounts 10 1000000 body (go var_a) u (knows (to_2 false (codes "Ann") 1) 0 []) rs
-unfolding digits whole_of is_number subs.number_in part_in id_in is_legal_node is_legal_sub is_sub_text is_global_name node_text node_cmp key_cmp row_field line_of layout_of data_node marker row_list row_class index_key key_node entry_node entry_list has_legal_entries stale differing child walk joins subscript_of after_of at_node gets sets kills increments orders calls calls_own writes frame edited loosed with_object prop_read is_at_or_below has_several read read_as edits_of load raise deleting delete look lock_keys test_targets kill_entries write save_items save open_object open_text open_id save_object delete_text delete_id next_id member_at method_of with_saved with_loaded with_member read_prop one_side_set slot_set given_back slot_from passed write_prop on_list on_array on_members on_class on_object on_items field.out-Field denote.Hole.Carrier.out
+unfolding digits is_legal_text whole_of is_number subs.number_in part_in id_in is_legal_node is_legal_sub is_sub_text is_global_name node_text node_cmp key_cmp row_field line_of layout_of data_node marker row_list row_class index_key key_node entry_node entry_list has_legal_entries stale differing child walk joins subscript_of after_of at_node gets sets kills increments orders calls calls_own writes frame edited loosed with_object prop_read is_at_or_below has_several read read_as edits_of load raise deleting delete look lock_keys test_targets kill_entries write save_items save open_object open_text open_id save_object delete_text delete_id next_id member_at method_of with_saved with_loaded with_member read_prop one_side_set slot_set given_back slot_from passed write_prop on_list on_array on_members on_class on_object on_items field.out-Field denote.Hole.Carrier.out
 opens body u rs go quit = simp (playing, views, drops) refl
 
 touches : (body : Block) (u : ℕ) (rs : List Reply) (go quit : Rest)
     → plays accounts 10 1000000 body (runs None 1000000 (command 1 dangling) var_a go quit) (suc (suc (suc (suc (suc u))))) (knows (to_2 false (codes "Ann") 1) 0 []) (reply.Granted ∷ reply.Absent ∷ reply.Done ∷ rs)
     ≡ take 6 (drop 4 keeps_dangling.sees) ++ plays accounts 10 1000000 body (go var_a) u (knows (to_2 false (codes "Ann") 1) 0 is_gone) rs
-unfolding digits whole_of is_number subs.number_in part_in id_in is_legal_node is_legal_sub is_sub_text is_global_name node_text node_cmp key_cmp row_field line_of layout_of data_node marker row_list row_class index_key key_node entry_node entry_list has_legal_entries stale differing child walk joins subscript_of after_of at_node gets sets kills increments orders calls calls_own writes frame edited loosed with_object prop_read is_at_or_below has_several read read_as edits_of load raise deleting delete look lock_keys test_targets kill_entries write save_items save open_object open_text open_id save_object delete_text delete_id next_id member_at method_of with_saved with_loaded with_member read_prop one_side_set slot_set given_back slot_from passed write_prop on_list on_array on_members on_class on_object on_items field.out-Field denote.Hole.Carrier.out
+unfolding digits is_legal_text whole_of is_number subs.number_in part_in id_in is_legal_node is_legal_sub is_sub_text is_global_name node_text node_cmp key_cmp row_field line_of layout_of data_node marker row_list row_class index_key key_node entry_node entry_list has_legal_entries stale differing child walk joins subscript_of after_of at_node gets sets kills increments orders calls calls_own writes frame edited loosed with_object prop_read is_at_or_below has_several read read_as edits_of load raise deleting delete look lock_keys test_targets kill_entries write save_items save open_object open_text open_id save_object delete_text delete_id next_id member_at method_of with_saved with_loaded with_member read_prop one_side_set slot_set given_back slot_from passed write_prop on_list on_array on_members on_class on_object on_items field.out-Field denote.Hole.Carrier.out
 touches body u rs go quit = simp (playing, views, drops) refl
 
 renamed : (body : Block) (u : ℕ) (rs : List Reply) (go quit : Rest)
     → plays accounts 10 1000000 body (runs None 1000000 (command 2 dangling) var_a go quit) (suc u) (knows (to_2 false (codes "Ann") 1) 0 is_gone) rs
     ≡ plays accounts 10 1000000 body (go var_a) u (knows (to_2 true (codes "Z") 1) 0 is_gone) rs
-unfolding digits whole_of is_number subs.number_in part_in id_in is_legal_node is_legal_sub is_sub_text is_global_name node_text node_cmp key_cmp row_field line_of layout_of data_node marker row_list row_class index_key key_node entry_node entry_list has_legal_entries stale differing child walk joins subscript_of after_of at_node gets sets kills increments orders calls calls_own writes frame edited loosed with_object prop_read is_at_or_below has_several read read_as edits_of load raise deleting delete look lock_keys test_targets kill_entries write save_items save open_object open_text open_id save_object delete_text delete_id next_id member_at method_of with_saved with_loaded with_member read_prop one_side_set slot_set given_back slot_from passed write_prop on_list on_array on_members on_class on_object on_items field.out-Field denote.Hole.Carrier.out
+unfolding digits is_legal_text whole_of is_number subs.number_in part_in id_in is_legal_node is_legal_sub is_sub_text is_global_name node_text node_cmp key_cmp row_field line_of layout_of data_node marker row_list row_class index_key key_node entry_node entry_list has_legal_entries stale differing child walk joins subscript_of after_of at_node gets sets kills increments orders calls calls_own writes frame edited loosed with_object prop_read is_at_or_below has_several read read_as edits_of load raise deleting delete look lock_keys test_targets kill_entries write save_items save open_object open_text open_id save_object delete_text delete_id next_id member_at method_of with_saved with_loaded with_member read_prop one_side_set slot_set given_back slot_from passed write_prop on_list on_array on_members on_class on_object on_items field.out-Field denote.Hole.Carrier.out
 renamed body u rs go quit = simp (playing, views, drops) refl
 
 z_written : written (memories accounts) (to_2 true (codes "Z") 2) 1 ≡ 1 ∷ []
-unfolding digits whole_of is_number subs.number_in part_in id_in is_legal_node is_legal_sub is_sub_text is_global_name node_text node_cmp key_cmp row_field line_of layout_of data_node marker row_list row_class index_key key_node entry_node entry_list has_legal_entries stale differing child walk joins subscript_of after_of at_node gets sets kills increments orders calls calls_own writes frame edited loosed with_object record_of prop_read root_fits list_fits object_fault is_at_or_below has_several read read_as edits_of load raise deleting delete look lock_keys test_targets kill_entries write save_items save reached written open_object open_text open_id save_object delete_text delete_id next_id member_at method_of with_saved with_loaded with_member is_marked fault_of record_in read_prop one_side_set slot_set given_back slot_from passed write_prop on_list on_array on_members on_class on_object on_items denote.Hole.Carrier.out
+unfolding digits is_legal_text whole_of is_number subs.number_in part_in id_in is_legal_node is_legal_sub is_sub_text is_global_name node_text node_cmp key_cmp row_field line_of layout_of data_node marker row_list row_class index_key key_node entry_node entry_list has_legal_entries stale differing child walk joins subscript_of after_of at_node gets sets kills increments orders calls calls_own writes frame edited loosed with_object record_of prop_read root_fits list_fits object_fault is_at_or_below has_several read read_as edits_of load raise deleting delete look lock_keys test_targets kill_entries write save_items save reached written open_object open_text open_id save_object delete_text delete_id next_id member_at method_of with_saved with_loaded with_member is_marked fault_of record_in read_prop one_side_set slot_set given_back slot_from passed write_prop on_list on_array on_members on_class on_object on_items denote.Hole.Carrier.out
 z_written = refl
 
 z_fault : fault_of accounts (to_2 true (codes "Z") 2) 1 ≡ None
-unfolding digits whole_of is_number subs.number_in part_in id_in is_legal_node is_legal_sub is_sub_text is_global_name node_text node_cmp key_cmp row_field line_of layout_of data_node marker row_list row_class index_key key_node entry_node entry_list has_legal_entries stale differing child walk joins subscript_of after_of at_node gets sets kills increments orders calls calls_own writes frame edited loosed with_object record_of prop_read root_fits list_fits object_fault is_at_or_below has_several read read_as edits_of load raise deleting delete look lock_keys test_targets kill_entries write save_items save reached written open_object open_text open_id save_object delete_text delete_id next_id member_at method_of with_saved with_loaded with_member is_marked fault_of record_in read_prop one_side_set slot_set given_back slot_from passed write_prop on_list on_array on_members on_class on_object on_items denote.Hole.Carrier.out
+unfolding digits is_legal_text whole_of is_number subs.number_in part_in id_in is_legal_node is_legal_sub is_sub_text is_global_name node_text node_cmp key_cmp row_field line_of layout_of data_node marker row_list row_class index_key key_node entry_node entry_list has_legal_entries stale differing child walk joins subscript_of after_of at_node gets sets kills increments orders calls calls_own writes frame edited loosed with_object record_of prop_read root_fits list_fits object_fault is_at_or_below has_several read read_as edits_of load raise deleting delete look lock_keys test_targets kill_entries write save_items save reached written open_object open_text open_id save_object delete_text delete_id next_id member_at method_of with_saved with_loaded with_member is_marked fault_of record_in read_prop one_side_set slot_set given_back slot_from passed write_prop on_list on_array on_members on_class on_object on_items denote.Hole.Carrier.out
 z_fault = simp (views, items) refl
 
 z_record : (drawn : Drawn) → record_in accounts (to_2 true (codes "Z") 2) drawn 1 ≡ z_to_2
-unfolding digits whole_of is_number subs.number_in part_in id_in is_legal_node is_legal_sub is_sub_text is_global_name node_text node_cmp key_cmp row_field line_of layout_of data_node marker row_list row_class index_key key_node entry_node entry_list has_legal_entries stale differing child walk joins subscript_of after_of at_node gets sets kills increments orders calls calls_own writes frame edited loosed with_object record_of prop_read root_fits list_fits object_fault is_at_or_below has_several read read_as edits_of load raise deleting delete look lock_keys test_targets kill_entries write save_items save reached written open_object open_text open_id save_object delete_text delete_id next_id member_at method_of with_saved with_loaded with_member is_marked fault_of record_in read_prop one_side_set slot_set given_back slot_from passed write_prop on_list on_array on_members on_class on_object on_items denote.Hole.Carrier.out
+unfolding digits is_legal_text whole_of is_number subs.number_in part_in id_in is_legal_node is_legal_sub is_sub_text is_global_name node_text node_cmp key_cmp row_field line_of layout_of data_node marker row_list row_class index_key key_node entry_node entry_list has_legal_entries stale differing child walk joins subscript_of after_of at_node gets sets kills increments orders calls calls_own writes frame edited loosed with_object record_of prop_read root_fits list_fits object_fault is_at_or_below has_several read read_as edits_of load raise deleting delete look lock_keys test_targets kill_entries write save_items save reached written open_object open_text open_id save_object delete_text delete_id next_id member_at method_of with_saved with_loaded with_member is_marked fault_of record_in read_prop one_side_set slot_set given_back slot_from passed write_prop on_list on_array on_members on_class on_object on_items denote.Hole.Carrier.out
 z_record drawn = simp views refl
 
 ruleset z_facts = (z_written, z_fault, z_record)
 
 -- what the save writes: the row, with another owner
 ann_rows : row_list accounts (key_in account 1) ann_to_2 ≡ (account_row 1, row ([] ∷ codes "Ann" ∷ [] ∷ codes "2" ∷ [])) ∷ []
-unfolding digits whole_of is_number subs.number_in line_of layout_of data_node marker row_list
+unfolding digits is_legal_text whole_of is_number subs.number_in line_of layout_of data_node marker row_list
 ann_rows = simp (plain_out, target_out, plain_item, target_item) refl
 
 z_rows : row_list accounts (key_in account 1) z_to_2 ≡ (account_row 1, row ([] ∷ codes "Z" ∷ [] ∷ codes "2" ∷ [])) ∷ []
-unfolding digits whole_of is_number subs.number_in line_of layout_of data_node marker row_list
+unfolding digits is_legal_text whole_of is_number subs.number_in line_of layout_of data_node marker row_list
 z_rows = simp (plain_out, target_out, plain_item, target_item) refl
 
 z_differs : same_value (row ([] ∷ codes "Ann" ∷ [] ∷ codes "2" ∷ [])) (row ([] ∷ codes "Z" ∷ [] ∷ codes "2" ∷ [])) ≡ false
@@ -113,11 +113,11 @@ z_differs = simp (same_lists) (simp (list_out) (simp (same_texts) (simp (text_ou
 
 z_edits : edits_of accounts (key_in account 1) (Some ann_to_2) (Some z_to_2)
     ≡ record { entry_kills = []; row_kills = []; row_sets = (account_row 1, row ([] ∷ codes "Z" ∷ [] ∷ codes "2" ∷ [])) ∷ []; entry_sets = [] }
-unfolding digits whole_of is_number subs.number_in node_cmp index_key key_node entry_node entry_list stale differing edits_of field.out-Field denote.Hole.Carrier.out
+unfolding digits is_legal_text whole_of is_number subs.number_in node_cmp index_key key_node entry_node entry_list stale differing edits_of field.out-Field denote.Hole.Carrier.out
 z_edits = simp (ann_rows, z_rows) (rw z_differs refl)
 
 z_saved : plays accounts 10 1000000 (block dangling) (rest 1000000 dangling 3 var_a) 999990 (knows (to_2 true (codes "Z") 1) 0 is_gone) (drop 6 keeps_dangling.replies) ≡ drop 10 keeps_dangling.sees
-unfolding digits whole_of is_number subs.number_in part_in id_in is_legal_node is_legal_sub is_sub_text is_global_name node_text node_cmp key_cmp row_field line_of layout_of data_node marker row_class index_key key_node entry_node entry_list has_legal_entries stale differing child walk joins subscript_of after_of at_node gets sets kills increments orders calls calls_own writes frame edited loosed with_object prop_read is_at_or_below has_several read read_as load raise deleting delete look lock_keys test_targets kill_entries write save_items save open_object open_text open_id save_object delete_text delete_id next_id member_at method_of with_saved with_loaded with_member read_prop one_side_set slot_set given_back slot_from passed write_prop on_list on_array on_members on_class on_object on_items field.out-Field denote.Hole.Carrier.out
+unfolding digits is_legal_text whole_of is_number subs.number_in part_in id_in is_legal_node is_legal_sub is_sub_text is_global_name node_text node_cmp key_cmp row_field line_of layout_of data_node marker row_class index_key key_node entry_node entry_list has_legal_entries stale differing child walk joins subscript_of after_of at_node gets sets kills increments orders calls calls_own writes frame edited loosed with_object prop_read is_at_or_below has_several read read_as load raise deleting delete look lock_keys test_targets kill_entries write save_items save open_object open_text open_id save_object delete_text delete_id next_id member_at method_of with_saved with_loaded with_member read_prop one_side_set slot_set given_back slot_from passed write_prop on_list on_array on_members on_class on_object on_items field.out-Field denote.Hole.Carrier.out
 z_saved = simp (playing, views, z_facts) (rw z_edits (simp (playing, views, drops) refl))
 
 pub keeps_dangling_worked : IsWorked keeps_dangling

@@ -6,7 +6,7 @@ use Rattle.obj_kinds.specs.Subscript.{whole_of, is_number}
 use Rattle.obj_kinds.specs.IdReading.{part_in, id_in}
 use Rattle.obj_kinds.specs.NodeText.{node_text}
 use Rattle.obj_kinds.specs.Order.{node_cmp}
-use Rattle.obj_kinds.specs.Limits.{is_legal_node, is_legal_sub, is_sub_text, is_global_name}
+use Rattle.obj_kinds.specs.Limits.{is_legal_text, is_legal_node, is_legal_sub, is_sub_text, is_global_name}
 use Rattle.schema_kinds.specs.declared.record.Field as field
 use Rattle.schema_kinds.specs.Worlds.{key_cmp}
 use Rattle.record_layout.specs.Items.{row_field}
@@ -81,7 +81,7 @@ var_c = is (codes "c") 1 clerk ∷ []
 starts : (body : Block) (u : ℕ) (rs : List Reply) (go quit : Rest)
     → plays branches 10 1000000 body (runs None 1000000 (command 0 moving) [] go quit) (suc (suc u)) at_first (reply.Number (pos 1) ∷ rs)
     ≡ Asked ops.Begin ∷ plays branches 10 1000000 body (go []) u (knows (memory_of [] 0) 1 []) rs
-unfolding digits whole_of is_number subs.number_in part_in id_in is_legal_node is_legal_sub is_sub_text is_global_name node_text node_cmp key_cmp row_field line_of layout_of data_node marker row_list row_class index_key key_node entry_node entry_list has_legal_entries stale differing child walk joins subscript_of after_of at_node gets sets kills increments orders calls calls_own writes frame edited loosed with_object prop_read is_at_or_below has_several read read_as edits_of load raise deleting delete look lock_keys test_targets kill_entries write save_items save open_object open_text open_id save_object delete_text delete_id next_id member_at method_of with_saved with_loaded with_member read_prop one_side_set slot_set given_back slot_from passed write_prop on_list on_array on_members on_class on_object on_items field.out-Field denote.Hole.Carrier.out
+unfolding digits is_legal_text whole_of is_number subs.number_in part_in id_in is_legal_node is_legal_sub is_sub_text is_global_name node_text node_cmp key_cmp row_field line_of layout_of data_node marker row_list row_class index_key key_node entry_node entry_list has_legal_entries stale differing child walk joins subscript_of after_of at_node gets sets kills increments orders calls calls_own writes frame edited loosed with_object prop_read is_at_or_below has_several read read_as edits_of load raise deleting delete look lock_keys test_targets kill_entries write save_items save open_object open_text open_id save_object delete_text delete_id next_id member_at method_of with_saved with_loaded with_member read_prop one_side_set slot_set given_back slot_from passed write_prop on_list on_array on_members on_class on_object on_items field.out-Field denote.Hole.Carrier.out
 starts body u rs go quit = simp (playing, views, drops) refl
 
 abbrev clerk_to_1 : ℕ → Object
@@ -116,30 +116,30 @@ moves : (body : Block) (u : ℕ) (rs : List Reply) (go quit : Rest)
     → plays branches 10 1000000 body (runs None 1000000 (command 1 moving) [] go quit) (suc (suc (suc (suc (suc (suc (suc (suc u)))))))) (knows (memory_of [] 0) 1 [])
     (reply.Granted ∷ reply.Found (row ([] ∷ codes "Cy" ∷ codes "1" ∷ [])) ∷ reply.Done ∷ reply.Granted ∷ reply.Found (row ([] ∷ codes "South" ∷ [])) ∷ reply.Done ∷ rs)
     ≡ take 8 (drop 1 moves_clerk.sees) ++ plays branches 10 1000000 body (go var_c) u (knows (both true 1) 1 []) rs
-unfolding digits whole_of is_number subs.number_in part_in id_in is_legal_node is_legal_sub is_sub_text is_global_name node_text node_cmp key_cmp row_field line_of layout_of data_node marker row_list row_class index_key key_node entry_node entry_list has_legal_entries stale differing child walk joins subscript_of after_of at_node gets sets kills increments orders calls calls_own writes frame edited loosed with_object prop_read is_at_or_below has_several read read_as edits_of load raise deleting delete look lock_keys test_targets kill_entries write save_items save open_object open_text open_id save_object delete_text delete_id next_id member_at method_of with_saved with_loaded with_member read_prop slot_set given_back slot_from passed write_prop on_list on_array on_members on_class on_object on_items field.out-Field denote.Hole.Carrier.out
+unfolding digits is_legal_text whole_of is_number subs.number_in part_in id_in is_legal_node is_legal_sub is_sub_text is_global_name node_text node_cmp key_cmp row_field line_of layout_of data_node marker row_list row_class index_key key_node entry_node entry_list has_legal_entries stale differing child walk joins subscript_of after_of at_node gets sets kills increments orders calls calls_own writes frame edited loosed with_object prop_read is_at_or_below has_several read read_as edits_of load raise deleting delete look lock_keys test_targets kill_entries write save_items save open_object open_text open_id save_object delete_text delete_id next_id member_at method_of with_saved with_loaded with_member read_prop slot_set given_back slot_from passed write_prop on_list on_array on_members on_class on_object on_items field.out-Field denote.Hole.Carrier.out
 moves body u rs go quit = simp (playing, views, drops, side_facts) refl
 
 clerk_written : written (memories branches) (both true 2) 1 ≡ 1 ∷ []
-unfolding digits whole_of is_number subs.number_in part_in id_in is_legal_node is_legal_sub is_sub_text is_global_name node_text node_cmp key_cmp row_field line_of layout_of data_node marker row_list row_class index_key key_node entry_node entry_list has_legal_entries stale differing child walk joins subscript_of after_of at_node gets sets kills increments orders calls calls_own writes frame edited loosed with_object record_of prop_read root_fits list_fits object_fault is_at_or_below has_several read read_as edits_of load raise deleting delete look lock_keys test_targets kill_entries write save_items save reached written open_object open_text open_id save_object delete_text delete_id next_id member_at method_of with_saved with_loaded with_member is_marked fault_of record_in read_prop one_side_set slot_set given_back slot_from passed write_prop on_list on_array on_members on_class on_object on_items denote.Hole.Carrier.out
+unfolding digits is_legal_text whole_of is_number subs.number_in part_in id_in is_legal_node is_legal_sub is_sub_text is_global_name node_text node_cmp key_cmp row_field line_of layout_of data_node marker row_list row_class index_key key_node entry_node entry_list has_legal_entries stale differing child walk joins subscript_of after_of at_node gets sets kills increments orders calls calls_own writes frame edited loosed with_object record_of prop_read root_fits list_fits object_fault is_at_or_below has_several read read_as edits_of load raise deleting delete look lock_keys test_targets kill_entries write save_items save reached written open_object open_text open_id save_object delete_text delete_id next_id member_at method_of with_saved with_loaded with_member is_marked fault_of record_in read_prop one_side_set slot_set given_back slot_from passed write_prop on_list on_array on_members on_class on_object on_items denote.Hole.Carrier.out
 clerk_written = simp (views, items) refl
 
 clerk_fault : fault_of branches (both true 2) 1 ≡ None
-unfolding digits whole_of is_number subs.number_in part_in id_in is_legal_node is_legal_sub is_sub_text is_global_name node_text node_cmp key_cmp row_field line_of layout_of data_node marker row_list row_class index_key key_node entry_node entry_list has_legal_entries stale differing child walk joins subscript_of after_of at_node gets sets kills increments orders calls calls_own writes frame edited loosed with_object record_of prop_read root_fits list_fits object_fault is_at_or_below has_several read read_as edits_of load raise deleting delete look lock_keys test_targets kill_entries write save_items save reached written open_object open_text open_id save_object delete_text delete_id next_id member_at method_of with_saved with_loaded with_member is_marked fault_of record_in read_prop one_side_set slot_set given_back slot_from passed write_prop on_list on_array on_members on_class on_object on_items denote.Hole.Carrier.out
+unfolding digits is_legal_text whole_of is_number subs.number_in part_in id_in is_legal_node is_legal_sub is_sub_text is_global_name node_text node_cmp key_cmp row_field line_of layout_of data_node marker row_list row_class index_key key_node entry_node entry_list has_legal_entries stale differing child walk joins subscript_of after_of at_node gets sets kills increments orders calls calls_own writes frame edited loosed with_object record_of prop_read root_fits list_fits object_fault is_at_or_below has_several read read_as edits_of load raise deleting delete look lock_keys test_targets kill_entries write save_items save reached written open_object open_text open_id save_object delete_text delete_id next_id member_at method_of with_saved with_loaded with_member is_marked fault_of record_in read_prop one_side_set slot_set given_back slot_from passed write_prop on_list on_array on_members on_class on_object on_items denote.Hole.Carrier.out
 clerk_fault = simp (views, items) refl
 
 clerk_there : record_in branches (both true 2) [] 1 ≡ cy 2
-unfolding digits whole_of is_number subs.number_in part_in id_in is_legal_node is_legal_sub is_sub_text is_global_name node_text node_cmp key_cmp row_field line_of layout_of data_node marker row_list row_class index_key key_node entry_node entry_list has_legal_entries stale differing child walk joins subscript_of after_of at_node gets sets kills increments orders calls calls_own writes frame edited loosed with_object record_of prop_read root_fits list_fits object_fault is_at_or_below has_several read read_as edits_of load raise deleting delete look lock_keys test_targets kill_entries write save_items save reached written open_object open_text open_id save_object delete_text delete_id next_id member_at method_of with_saved with_loaded with_member is_marked fault_of record_in read_prop one_side_set slot_set given_back slot_from passed write_prop on_list on_array on_members on_class on_object on_items denote.Hole.Carrier.out
+unfolding digits is_legal_text whole_of is_number subs.number_in part_in id_in is_legal_node is_legal_sub is_sub_text is_global_name node_text node_cmp key_cmp row_field line_of layout_of data_node marker row_list row_class index_key key_node entry_node entry_list has_legal_entries stale differing child walk joins subscript_of after_of at_node gets sets kills increments orders calls calls_own writes frame edited loosed with_object record_of prop_read root_fits list_fits object_fault is_at_or_below has_several read read_as edits_of load raise deleting delete look lock_keys test_targets kill_entries write save_items save reached written open_object open_text open_id save_object delete_text delete_id next_id member_at method_of with_saved with_loaded with_member is_marked fault_of record_in read_prop one_side_set slot_set given_back slot_from passed write_prop on_list on_array on_members on_class on_object on_items denote.Hole.Carrier.out
 clerk_there = simp (views, items) refl
 
 ruleset clerk_facts = (clerk_written, clerk_fault, clerk_there)
 
 -- what the save writes: the row with another target, and the entry of the one side
 old_rows : row_list branches (key_in clerk 1) (cy 1) ≡ (clerk_row 1, row ([] ∷ codes "Cy" ∷ codes "1" ∷ [])) ∷ []
-unfolding digits whole_of is_number subs.number_in line_of layout_of data_node marker row_list
+unfolding digits is_legal_text whole_of is_number subs.number_in line_of layout_of data_node marker row_list
 old_rows = simp (plain_out, target_out, plain_item, target_item) refl
 
 new_rows : row_list branches (key_in clerk 1) (cy 2) ≡ (clerk_row 1, row ([] ∷ codes "Cy" ∷ codes "2" ∷ [])) ∷ []
-unfolding digits whole_of is_number subs.number_in line_of layout_of data_node marker row_list
+unfolding digits is_legal_text whole_of is_number subs.number_in line_of layout_of data_node marker row_list
 new_rows = simp (plain_out, target_out, plain_item, target_item) refl
 
 rows_differ : same_value (row ([] ∷ codes "Cy" ∷ codes "1" ∷ [])) (row ([] ∷ codes "Cy" ∷ codes "2" ∷ [])) ≡ false
@@ -147,7 +147,7 @@ rows_differ = simp (same_lists) (simp (list_out) (simp (same_texts) (simp (text_
 
 clerk_edits : edits_of branches (key_in clerk 1) (Some (cy 1)) (Some (cy 2))
     ≡ record { entry_kills = member_entry 1 1 ∷ []; row_kills = []; row_sets = (clerk_row 1, row ([] ∷ codes "Cy" ∷ codes "2" ∷ [])) ∷ []; entry_sets = (member_entry 2 1, nothing) ∷ [] }
-unfolding digits whole_of is_number subs.number_in node_cmp index_key key_node entry_node entry_list stale differing edits_of field.out-Field denote.Hole.Carrier.out
+unfolding digits is_legal_text whole_of is_number subs.number_in node_cmp index_key key_node entry_node entry_list stale differing edits_of field.out-Field denote.Hole.Carrier.out
 clerk_edits = simp (old_rows, new_rows) (rw rows_differ refl)
 
 saved : (u : ℕ) (rs : List Reply) (go quit : Rest) (body : Block)
@@ -155,11 +155,11 @@ saved : (u : ℕ) (rs : List Reply) (go quit : Rest) (body : Block)
     (reply.Number (pos 2) ∷ reply.Granted ∷ reply.Found (row ([] ∷ codes "Cy" ∷ codes "1" ∷ [])) ∷ reply.Granted ∷ reply.Granted ∷ reply.Granted ∷ reply.State 1
     ∷ reply.Done ∷ reply.Done ∷ reply.Done ∷ reply.Number (pos 1) ∷ rs)
     ≡ take 13 (drop 9 moves_clerk.sees) ++ plays branches 10 1000000 body (go var_c) u (knows (both false 1) 1 []) rs
-unfolding digits whole_of is_number subs.number_in part_in id_in is_legal_node is_legal_sub is_sub_text is_global_name node_text node_cmp key_cmp row_field line_of layout_of data_node marker row_class index_key key_node entry_node entry_list has_legal_entries stale differing child walk joins subscript_of after_of at_node gets sets kills increments orders calls calls_own writes frame edited loosed with_object prop_read is_at_or_below has_several read read_as load raise deleting delete look lock_keys test_targets kill_entries write save_items save open_object open_text open_id save_object delete_text delete_id next_id member_at method_of with_saved with_loaded with_member read_prop one_side_set slot_set given_back slot_from passed write_prop on_list on_array on_members on_class on_object on_items field.out-Field denote.Hole.Carrier.out
+unfolding digits is_legal_text whole_of is_number subs.number_in part_in id_in is_legal_node is_legal_sub is_sub_text is_global_name node_text node_cmp key_cmp row_field line_of layout_of data_node marker row_class index_key key_node entry_node entry_list has_legal_entries stale differing child walk joins subscript_of after_of at_node gets sets kills increments orders calls calls_own writes frame edited loosed with_object prop_read is_at_or_below has_several read read_as load raise deleting delete look lock_keys test_targets kill_entries write save_items save open_object open_text open_id save_object delete_text delete_id next_id member_at method_of with_saved with_loaded with_member read_prop one_side_set slot_set given_back slot_from passed write_prop on_list on_array on_members on_class on_object on_items field.out-Field denote.Hole.Carrier.out
 saved u rs go quit body = simp (playing, views, clerk_facts) (rw clerk_edits (simp (playing, views, drops) refl))
 
 commits : plays branches 10 1000000 (block moving) (rest 1000000 moving 3 var_c) 999977 (knows (both false 1) 1 []) (reply.Number (pos 0) ∷ []) ≡ drop 22 moves_clerk.sees
-unfolding digits whole_of is_number subs.number_in part_in id_in is_legal_node is_legal_sub is_sub_text is_global_name node_text node_cmp key_cmp row_field line_of layout_of data_node marker row_list row_class index_key key_node entry_node entry_list has_legal_entries stale differing child walk joins subscript_of after_of at_node gets sets kills increments orders calls calls_own writes frame edited loosed with_object prop_read is_at_or_below has_several read read_as edits_of load raise deleting delete look lock_keys test_targets kill_entries write save_items save open_object open_text open_id save_object delete_text delete_id next_id member_at method_of with_saved with_loaded with_member read_prop one_side_set slot_set given_back slot_from passed write_prop on_list on_array on_members on_class on_object on_items field.out-Field denote.Hole.Carrier.out
+unfolding digits is_legal_text whole_of is_number subs.number_in part_in id_in is_legal_node is_legal_sub is_sub_text is_global_name node_text node_cmp key_cmp row_field line_of layout_of data_node marker row_list row_class index_key key_node entry_node entry_list has_legal_entries stale differing child walk joins subscript_of after_of at_node gets sets kills increments orders calls calls_own writes frame edited loosed with_object prop_read is_at_or_below has_several read read_as edits_of load raise deleting delete look lock_keys test_targets kill_entries write save_items save open_object open_text open_id save_object delete_text delete_id next_id member_at method_of with_saved with_loaded with_member read_prop one_side_set slot_set given_back slot_from passed write_prop on_list on_array on_members on_class on_object on_items field.out-Field denote.Hole.Carrier.out
 commits = simp (playing, views, drops) refl
 
 pub moves_clerk_worked : IsWorked moves_clerk

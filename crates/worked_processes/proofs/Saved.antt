@@ -6,7 +6,7 @@ use Rattle.obj_kinds.specs.Subscript.{whole_of, is_number}
 use Rattle.obj_kinds.specs.IdReading.{part_in, id_in}
 use Rattle.obj_kinds.specs.NodeText.{node_text}
 use Rattle.obj_kinds.specs.Order.{node_cmp}
-use Rattle.obj_kinds.specs.Limits.{is_legal_node, is_legal_sub, is_sub_text, is_global_name}
+use Rattle.obj_kinds.specs.Limits.{is_legal_text, is_legal_node, is_legal_sub, is_sub_text, is_global_name}
 use Rattle.schema_kinds.specs.Worlds.{key_cmp}
 use Rattle.record_layout.specs.Items.{row_field}
 use Rattle.record_layout.specs.Layout.{line_of, layout_of}
@@ -49,5 +49,5 @@ use Rattle.worked_processes.specs.Bank.{IsWorked}
 use Rattle.worked_processes.specs.Saving.{deletes_holder}
 
 pub deletes_holder_worked : IsWorked deletes_holder
-unfolding digits whole_of is_number subs.number_in part_in id_in is_legal_node is_legal_sub is_sub_text is_global_name node_text node_cmp key_cmp row_field line_of layout_of data_node marker row_list row_class index_key key_node entry_node entry_list has_legal_entries stale differing child walk joins subscript_of after_of at_node gets sets kills increments orders calls calls_own writes frame edited loosed with_object record_of prop_read root_fits list_fits object_fault is_at_or_below has_several read read_as edits_of load raise deleting delete look lock_keys test_targets kill_entries write save_items save reached written open_object open_text open_id save_object delete_text delete_id next_id member_at method_of with_saved with_loaded with_member is_marked fault_of record_in read_prop one_side_set slot_set given_back slot_from passed write_prop on_list on_array on_members on_class on_object on_items denote.Hole.Carrier.out
+unfolding digits is_legal_text whole_of is_number subs.number_in part_in id_in is_legal_node is_legal_sub is_sub_text is_global_name node_text node_cmp key_cmp row_field line_of layout_of data_node marker row_list row_class index_key key_node entry_node entry_list has_legal_entries stale differing child walk joins subscript_of after_of at_node gets sets kills increments orders calls calls_own writes frame edited loosed with_object record_of prop_read root_fits list_fits object_fault is_at_or_below has_several read read_as edits_of load raise deleting delete look lock_keys test_targets kill_entries write save_items save reached written open_object open_text open_id save_object delete_text delete_id next_id member_at method_of with_saved with_loaded with_member is_marked fault_of record_in read_prop one_side_set slot_set given_back slot_from passed write_prop on_list on_array on_members on_class on_object on_items denote.Hole.Carrier.out
 deletes_holder_worked = process-plays deletes_holder.classes deletes_holder.tries deletes_holder.units (block deletes_holder.script) deletes_holder.replies ∙ simp (playing, views, items, drops) refl

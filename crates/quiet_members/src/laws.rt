@@ -1,0 +1,18 @@
+//! Laws of calls of objects that ask no operation: memory stays good and names no more keys.
+
+ghost use Rattle.quiet_members.specs.Laws.{WritesAreQuiet, NewsAreQuiet, ListsAreQuiet};
+
+/// A set of a property asks nothing, whatever the object, the property and the value.
+pub fn writes_are_quiet()
+    ensures { WritesAreQuiet }
+{}
+
+/// `%New` of a class of the schema asks nothing.
+pub fn new_objects_are_quiet()
+    ensures { NewsAreQuiet }
+{}
+
+/// The members of a list ask nothing, but for `GetAt`, which opens what stands there as an id.
+pub fn members_of_lists_are_quiet()
+    ensures { ListsAreQuiet }
+{}
