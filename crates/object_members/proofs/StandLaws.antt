@@ -24,14 +24,14 @@ use Rattle.oref_table.specs.Memory.{Object, Memory, object_of, is_numbered, chan
 use Rattle.oref_table.proofs.OrderLaws.{object-number}
 use Rattle.obj_shape.specs.Fitting.{IsClassFor}
 use Rattle.obj_props.specs.Properties.{prop_place}
-use Rattle.prop_setting.specs.Elements.{Standing, IsText, IsEmptyText, ValueTakes, ObjectTakes, Takes, standing, stood, error_of}
-use Rattle.prop_setting.specs.Sets.{FormSets, PropSets, FormRefuses, PlaceRefuses, PropRefuses, prop_at, named_prop}
+use Rattle.prop_setting.specs.Elements.{Standing, IsText, IsEmptyText, ValueTakes, ObjectTakes, standing, stood}
+use Rattle.prop_setting.specs.Sets.{FormSets, FormRefuses, PlaceRefuses, prop_at, named_prop}
 use Rattle.store_calls.specs.Calls.{Give}
 use Rattle.call_laws.proofs.BelowLaws.{below_told}
 use Rattle.host_meaning.specs.Objects.{Known}
 use Rattle.object_members.specs.Seeing.{class_name_part, props_at}
 use Rattle.object_members.specs.Ends.{with_memory, errs}
-use Rattle.object_members.specs.Standing.{fill_with, held_for, is_text, is_empty_text, is_class_for, value_takes, object_takes, takes, stands}
+use Rattle.object_members.specs.Standing.{fill_with, held_for, is_text, is_empty_text, is_class_for, value_takes, object_takes, takes}
 use Rattle.object_members.specs.Writes.{prop_set, writes_standing, writes_form, writes_prop, writes_place, writes_of, write_prop}
 use Rattle.object_members.specs.SetLaws.{IsLegalIfText, IsLegalFill, IsLegalAs, TakesByTheRules, IsNoOneSide, NamesNoOneSide, SetsByTheRules, RefusesByTheRules}
 

@@ -1,10 +1,12 @@
 -- The arguments of built-in members: a missing one is the empty text, and one too many is refused.
 use Rattle.std.specs.Prelude.{ℕ, zero, ◌-◌, ℤ, pos, negsuc, nat_le, cond, ◌&&◌, ◌||◌, List, [], ◌∷◌, codes, Ok, Err}
+use Rattle.obj_kinds.specs.Limits.{is_legal_sub}
 use Rattle.obj_kinds.specs.Texts.{same_text}
 use Rattle.obj_kinds.specs.declared.error_name.ErrorName.TheVariants as error
+use Rattle.obj_kinds.specs.declared.sub.Sub.{Sub}
 use Rattle.os_kinds.specs.declared.val.Val.{Val}
 use Rattle.os_value.specs.Answers.{and_then}
-use Rattle.os_meaning.specs.Values.{Checked, text_of}
+use Rattle.os_meaning.specs.Values.{Checked, text_of, subscript_of}
 use Rattle.oref_table.specs.Memory.{Memory}
 use Rattle.host_meaning.specs.Objects.{ObjectCall}
 use Rattle.object_members.specs.Ends.{nothing, errs}
@@ -41,6 +43,14 @@ level_in text = cond (same_text text [] || same_text text (codes "-1")) (Ok 2) (
 
 abbrev pub level_of : Val → Checked ℕ
 level_of v = and_then (text_of v) level_in
+
+-- ---- keys of arrays: subscripts within the limits
+
+abbrev pub legal_key : Sub → Checked Sub
+legal_key k = cond (is_legal_sub k) (Ok k) (Err error.Subscript)
+
+abbrev pub key_from : Val → Checked Sub
+key_from v = and_then (subscript_of 0 v) legal_key
 
 -- ---- positions: a number that isn't from 1 on is outside every list
 

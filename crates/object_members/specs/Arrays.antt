@@ -1,5 +1,5 @@
 -- The members of an array property. Its elements stand in the order of their keys; each change marks its object.
-use Rattle.std.specs.Prelude.{ℕ, pos, Bool, true, false, List, [], ◌∷◌, length, Option, None, Some, is_some}
+use Rattle.std.specs.Prelude.{ℕ, pos, Bool, true, false, List, [], length, Option, None, Some, is_some}
 use Rattle.std.specs.FinMap.{find, put}
 use Rattle.obj_kinds.specs.declared.value.Value.TheVariants as value
 use Rattle.obj_kinds.specs.declared.error_name.ErrorName.TheVariants as error
@@ -8,7 +8,7 @@ use Rattle.obj_kinds.specs.SubOrder.{sub_cmp}
 use Rattle.schema_kinds.specs.declared.class.Class.{Class}
 use Rattle.schema_kinds.specs.declared.kind.Item.{Item}
 use Rattle.os_kinds.specs.declared.val.Val.{Val}
-use Rattle.os_meaning.specs.Values.{number_value, subscript_of, after_of, sub_value}
+use Rattle.os_meaning.specs.Values.{number_value, after_of, sub_value}
 use Rattle.oref_table.specs.declared.slot.Slot.{Slot}
 use Rattle.oref_table.specs.declared.slot.Slot.TheVariants.{Map}
 use Rattle.oref_table.specs.declared.slot.Slot.TheViews.{out-Slot}
@@ -20,7 +20,7 @@ use Rattle.prop_setting.specs.Arrays.{next_key}
 use Rattle.prop_setting.specs.Elements.{Standing, slot_set, stood}
 use Rattle.host_meaning.specs.Objects.{ObjectCall}
 use Rattle.object_members.specs.Ends.{with_memory, nothing, yes, no, answers, errs}
-use Rattle.object_members.specs.Arguments.{without_args, with_arg, with_args, checks}
+use Rattle.object_members.specs.Arguments.{without_args, with_arg, with_args, checks, key_from}
 use Rattle.object_members.specs.Reads.{reads}
 use Rattle.object_members.specs.Lists.{with_standing}
 use Rattle.object_members.specs.ItemMembers.{ItemMember, Count, GetAt, SetAt, RemoveAt, Next}
@@ -51,7 +51,7 @@ module _ (classes : List Class) (tries most : ℕ) (o : Object) (at : ℕ) (pair
 
   -- a fault of the element comes before one of the key
   abbrev pub set_by : Val → Val → ObjectCall Memory
-  set_by v k s = with_standing classes tries most o at [] i v (λ st. checks (subscript_of 0 k) (λ key. puts_by key st)) s
+  set_by v k s = with_standing classes tries most o at [] i v (λ st. checks (key_from k) (λ key. puts_by key st)) s
 
   abbrev pub takes_by : Sub → Bool → ObjectCall Memory
   takes_by k true s = answers (with_memory (array_removed s.memory o at pairs k) s) yes
@@ -59,8 +59,8 @@ module _ (classes : List Class) (tries most : ℕ) (o : Object) (at : ℕ) (pair
 
   unfoldable pub on_array : ItemMember → List Val → ObjectCall Memory
   on_array Count args s = without_args args (λ s. answers s (number_value (pos (length pairs)))) s
-  on_array GetAt args s = with_arg args (λ k. checks (subscript_of 0 k) get_by) s
+  on_array GetAt args s = with_arg args (λ k. checks (key_from k) get_by) s
   on_array SetAt args s = with_args args set_by s
-  on_array RemoveAt args s = with_arg args (λ k. checks (subscript_of 0 k) (λ key. takes_by key (is_some (find sub_cmp key pairs)))) s
+  on_array RemoveAt args s = with_arg args (λ k. checks (key_from k) (λ key. takes_by key (is_some (find sub_cmp key pairs)))) s
   on_array Next args s = with_arg args (λ k. checks (after_of 0 k) (λ behind s. answers s (key_or (next_key behind pairs)))) s
   on_array _ args s = errs s error.MethodDoesNotExist

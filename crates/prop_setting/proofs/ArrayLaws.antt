@@ -144,7 +144,7 @@ mark-undone m m1 m2 w n b o there is marked same back =
 
 -- ---- it fits
 
-out-Map : (pairs : List (Sub × Slot)) → out-Slot (Map pairs) ≡ Slot-F.Map pairs
+pub out-Map : (pairs : List (Sub × Slot)) → out-Slot (Map pairs) ≡ Slot-F.Map pairs
 out-Map pairs = ap out-Slot (sym (rolls-Map pairs)) ∙ out-roll-Slot (Slot-F.Map pairs)
 
 -- the elements of an array are in order, and fit
@@ -156,7 +156,7 @@ array-elements classes m n at i pairs fits array slot =
     let good : IsOfKind classes m slot.1.kind (out-Slot (Map pairs)) = good-at (IsSlotOf classes m) (props_of (class_of classes slot.0.class)) slot.0.slots at slot.1 (Map pairs) (fits-at classes m n slot.0 fits slot.2).slots slot.3 got in
     subst (λ v. IsOfForm classes m (keyed i) v) (out-Map pairs) (kind-form classes m slot.1.kind (keyed i) (out-Slot (Map pairs)) slot.4 good)
 
-each-put : (P : Sub × Slot → Type 0) (k : Sub) (s : Slot) (pairs : List (Sub × Slot)) → ((q : Sub) (old : Slot) → P (q, old) → P (q, s)) → P (k, s) → EachGood P pairs → EachGood P (put sub_cmp k s pairs)
+pub each-put : (P : Sub × Slot → Type 0) (k : Sub) (s : Slot) (pairs : List (Sub × Slot)) → ((q : Sub) (old : Slot) → P (q, old) → P (q, s)) → P (k, s) → EachGood P pairs → EachGood P (put sub_cmp k s pairs)
 each-put P k s [] same h g = (h, tt)
 each-put P k s (e ∷ es) same h g =
     elim (sub_cmp k e.0) as (λ r. EachGood P (by_order r ((k, s) ∷ e ∷ es) ((e.0, s) ∷ es) (e ∷ put sub_cmp k s es))) [
@@ -185,7 +185,7 @@ array-set classes m w n at at1 level i i1 pairs k f (Ok x) a b takes h = (
 
 -- ---- an element goes
 
-each-without : (P : Sub × Slot → Type 0) (p : Sub × Slot → Bool) (es : List (Sub × Slot)) → EachGood P es → EachGood P (without_first p es)
+pub each-without : (P : Sub × Slot → Type 0) (p : Sub × Slot → Bool) (es : List (Sub × Slot)) → EachGood P es → EachGood P (without_first p es)
 each-without P p [] h = tt
 each-without P p (e ∷ es) h = by (p e) (each-without P p es h.1)
   where
