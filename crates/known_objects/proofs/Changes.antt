@@ -104,7 +104,7 @@ names-none classes known s h p = no-id classes known p.kind (out-Slot s) h
 members-none : (orefs : List Oref) → NamesNoId (out-Slot (Members orefs))
 members-none orefs = subst NamesNoId (sym (ap out-Slot (sym (rolls-Members orefs)) ∙ out-roll-Slot (Slot-F.Members orefs))) tt
 
-alone-none : (n : ℕ) → NamesNoId (out-Slot (alone n))
+pub alone-none : (n : ℕ) → NamesNoId (out-Slot (alone n))
 alone-none n = subst NamesNoId (sym (to-out (record { 0 = n }))) tt
 
 pub put-slots : (P : Prop → Slot → Type 0) (props : List Prop) (slots : List Slot) (at : ℕ) (s : Slot) → AreGood P props slots → ((p : Prop) → P p s) → AreGood P props (slice_set slots at s)

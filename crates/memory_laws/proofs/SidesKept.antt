@@ -154,7 +154,7 @@ module _ (classes : List Class) (m : Memory) where
   members-fit name f new (kind.One c side) s below h = absurd below
 
   -- an object that a slot may name stands alone in it
-  alone-fits : (n : ℕ) (o : Object) → object_of n m.objects ≡ Some o → (kd : Kind) → MayName classes o.class kd → IsOfKind classes m kd (out-Slot (alone n))
+  pub alone-fits : (n : ℕ) (o : Object) → object_of n m.objects ≡ Some o → (kd : Kind) → MayName classes o.class kd → IsOfKind classes m kd (out-Slot (alone n))
   alone-fits n o is (kind.One c side) below = subst (IsOfKind classes m (kind.One c side)) (sym (to-out (record { 0 = n }))) (named-as m (λ name. IsBelow classes name c) n o is below)
   alone-fits n o is (kind.Ref c) below = subst (IsOfKind classes m (kind.Ref c)) (sym (to-out (record { 0 = n }))) (named-as m (λ name. IsBelow classes name c) n o is below)
   alone-fits n o is kind.Text below = absurd below

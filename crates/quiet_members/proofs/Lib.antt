@@ -1,3 +1,7 @@
 pub mod Calls
+pub mod Ends
 pub mod Stood
 pub mod ListMembers
+pub mod ArrayMembers
+pub mod ManyMembers
+pub mod Marks

@@ -1,7 +1,6 @@
 -- The members of a list ask nothing: what is put into it fits, and the other items fit as before.
-use Rattle.std.proofs.Common.{◌≡◌, ◌≢◌, ℕ, ◌-◌, cond, Bool, true, false, List, [], ◌∷◌, ◌++◌, insert, None, Some, Ok, Err, slice_set, refl, ap, sym, subst, ◌∙◌}
+use Rattle.std.proofs.Common.{◌≡◌, ◌≢◌, ℕ, ◌-◌, Bool, true, false, List, [], ◌∷◌, ◌++◌, insert, Some, slice_set, refl, ap, sym, subst, ◌∙◌}
 use Rattle.std.specs.List.{remove}
-use Rattle.obj_kinds.specs.declared.error_name.ErrorName.{ErrorName}
 use Rattle.obj_kinds.specs.declared.error_name.ErrorName.TheVariants as error
 use Rattle.schema_kinds.specs.declared.class.Class.{Class}
 use Rattle.schema_kinds.specs.declared.prop.Prop.{Prop}
@@ -10,8 +9,7 @@ use Rattle.schema_kinds.specs.declared.kind.Item.{Item}
 use Rattle.schema_kinds.specs.Classes.{class_of, props_of}
 use Rattle.record_layout.specs.Inverse.{EachGood}
 use Rattle.os_kinds.specs.declared.val.Val.{Val}
-use Rattle.os_kinds.specs.declared.call.Answer.TheVariants as answer
-use Rattle.os_meaning.specs.Values.{Checked, number_of}
+use Rattle.os_meaning.specs.Values.{number_of}
 use Rattle.oref_table.specs.declared.slot.Slot.{Slot}
 use Rattle.oref_table.specs.declared.slot.Slot.TheVariants.{Items}
 use Rattle.oref_table.specs.declared.slot.Slot.TheOpen.{Slot-F}
@@ -21,11 +19,11 @@ use Rattle.obj_shape.specs.Records.{items_of}
 use Rattle.obj_shape.specs.Fitting.{IsElement, IsOfKind, IsSlotOf}
 use Rattle.obj_shape.specs.Wholeness.{part_class}
 use Rattle.obj_shape.proofs.FitLaws.{fits-at}
-use Rattle.prop_setting.specs.Elements.{Standing, slot_set, standing, stood, error_of}
+use Rattle.prop_setting.specs.Elements.{Standing, slot_set, standing, stood}
 use Rattle.prop_setting.proofs.ListLaws.{out-Items, each-set, each-both, each-insert, each-remove}
-use Rattle.host_meaning.specs.Objects.{Known, ObjectCall}
-use Rattle.object_members.specs.Ends.{nothing, yes, answers, errs, with_memory}
-use Rattle.object_members.specs.Arguments.{with_arg, with_args, without_args, checks, position_of}
+use Rattle.host_meaning.specs.Objects.{Known}
+use Rattle.object_members.specs.Ends.{yes}
+use Rattle.object_members.specs.Arguments.{checks, position_of}
 use Rattle.object_members.specs.Standing.{fill_with, held_for, takes}
 use Rattle.object_members.specs.SetLaws.{IsNoOneSide}
 use Rattle.object_members.specs.ItemMembers.{ItemMember, Count, GetAt, SetAt, Insert, InsertAt, RemoveAt, Next, Unknown}
@@ -39,47 +37,14 @@ use Rattle.known_objects.specs.Laws.{IsPlainItem}
 use Rattle.known_objects.proofs.Changes.{NamesNoId, names-none, slots_name}
 use Rattle.quiet_members.specs.Quiet.{IsFine, EndsFine, IsSchemaOfMembers}
 use Rattle.quiet_members.specs.Laws.{IsListAt, ListsAreQuiet}
-use Rattle.quiet_members.proofs.Stood.{element-more, held-more, stood-fine}
+use Rattle.quiet_members.proofs.Ends.{ends-answer, ends-error, ends-with, ends-checked, ends-without, ends-arg, ends-args, ends-standing}
+use Rattle.quiet_members.proofs.Stood.{each-more, element-more, held-more, stood-fine}
 
 -- a property of the same keeps each item
 abbrev KeepsEach : List Slot → (Slot → List Slot) → Type 1
 KeepsEach items change = (P : Slot → Type 0) (t : Slot) → EachGood P items → P t → EachGood P (change t)
 
-each-more : {A : Type 0} (P Q : A → Type 0) (xs : List A) → ((x : A) → P x → Q x) → EachGood P xs → EachGood Q xs
-each-more P Q [] more h = tt
-each-more P Q (x ∷ xs) more h = (more x h.0, each-more P Q xs more h.1)
-
 module _ (classes : List Class) (known : Classed) (tries most : ℕ) (schema : IsSchemaOfMembers classes) (s : Known Memory) (fine : IsFine classes known s.memory) where
-  -- ---- ends
-
-  pub ends-answer : (v : Val) → EndsFine classes known (answers s v)
-  ends-answer v = record { left = s; answer = answer.Got v; is = refl; fine = fine }
-
-  pub ends-error : (e : ErrorName) → EndsFine classes known (errs s e)
-  ends-error e = record { left = s; answer = answer.Error e; is = refl; fine = fine }
-
-  pub ends-with : (w : Memory) (v : Val) → IsFine classes known w → EndsFine classes known (answers (with_memory w s) v)
-  ends-with w v h = record { left = with_memory w s; answer = answer.Got v; is = refl; fine = h }
-
-  pub ends-checked : {A : Type 0} (x : Checked A) (go : A → ObjectCall Memory) → ((a : A) → EndsFine classes known (go a s)) → EndsFine classes known (checks x go s)
-  ends-checked (Ok a) go h = h a
-  ends-checked (Err e) go h = ends-error e
-
-  pub ends-without : (args : List Val) (go : ObjectCall Memory) → EndsFine classes known (go s) → EndsFine classes known (without_args args go s)
-  ends-without [] go h = h
-  ends-without (v ∷ vs) go h = ends-error error.Parameter
-
-  pub ends-arg : (args : List Val) (go : Val → ObjectCall Memory) → ((v : Val) → EndsFine classes known (go v s)) → EndsFine classes known (with_arg args go s)
-  ends-arg [] go h = h nothing
-  ends-arg (v ∷ []) go h = h v
-  ends-arg (v ∷ w ∷ vs) go h = ends-error error.Parameter
-
-  pub ends-args : (args : List Val) (go : Val → Val → ObjectCall Memory) → ((v w : Val) → EndsFine classes known (go v w s)) → EndsFine classes known (with_args args go s)
-  ends-args [] go h = h nothing nothing
-  ends-args (v ∷ []) go h = h v nothing
-  ends-args (v ∷ w ∷ []) go h = h v w
-  ends-args (v ∷ w ∷ x ∷ vs) go h = ends-error error.Parameter
-
   module _ (o : Object) (at : ℕ) (i : Item) (slot : Slot) (list : IsListAt classes s.memory o at i slot) where
     abbrev items : List Slot
     items = items_of (out-Slot slot)
@@ -123,59 +88,51 @@ module _ (classes : List Class) (known : Classed) (tries most : ℕ) (schema : I
 
     ends-puts : (v : Val) (b : Bool) (change : Slot → List Slot) → KeepsEach items change → takes classes (held_for v s.memory) i (fill_with v) ≡ true
         → EndsFine classes known (lists.puts classes tries most o at items i b change (stand v) s)
-    ends-puts v false change keeps taken = ends-error error.IllegalValue
+    ends-puts v false change keeps taken = ends-error classes known s fine error.IllegalValue
     ends-puts v true change keeps taken =
-        ends-with (stood o.number at (λ t. Items (change t)) (stand v)) yes
+        ends-with classes known s fine (stood o.number at (λ t. Items (change t)) (stand v)) yes
         (stood-fine classes known schema s.memory fine v o list.live at list.prop list.there none i plain-item (λ t. Items (change t)) (shape-fits v change keeps) taken)
-
-    ends-standing : (v : Val) (go : Standing → ObjectCall Memory) → (takes classes (held_for v s.memory) i (fill_with v) ≡ true → EndsFine classes known (go (stand v) s))
-        → EndsFine classes known (lists.with_standing classes tries most o at items i v go s)
-    ends-standing v go h = by (takes classes (held_for v s.memory) i (fill_with v)) refl
-      where
-        by : (b : Bool) → takes classes (held_for v s.memory) i (fill_with v) ≡ b → EndsFine classes known (lists.puts_standing classes tries most o at items i (cond b (Some (stand v)) None) go s)
-        by true e = h e
-        by false e = ends-error (error_of i)
 
     ends-set : (v p : Val) → EndsFine classes known (lists.set_at classes tries most o at items i v p s)
     ends-set v p =
-        ends-standing v (λ st. checks (number_of p) (λ z. lists.puts classes tries most o at items i (is_position items (position_of z)) (λ t. slice_set items (position_of z - 1) t) st))
-        (λ taken. ends-checked (number_of p) _ (λ z. ends-puts v (is_position items (position_of z)) (λ t. slice_set items (position_of z - 1) t) (λ P t h k. each-set P items (position_of z - 1) t h k) taken))
+        ends-standing classes known s fine tries most o at items i v (λ st. checks (number_of p) (λ z. lists.puts classes tries most o at items i (is_position items (position_of z)) (λ t. slice_set items (position_of z - 1) t) st))
+        (λ taken. ends-checked classes known s fine (number_of p) _ (λ z. ends-puts v (is_position items (position_of z)) (λ t. slice_set items (position_of z - 1) t) (λ P t h k. each-set P items (position_of z - 1) t h k) taken))
 
     ends-before : (v p : Val) → EndsFine classes known (lists.put_before classes tries most o at items i v p s)
     ends-before v p =
-        ends-standing v (λ st. checks (number_of p) (λ z. lists.puts classes tries most o at items i (is_new_position items (position_of z)) (λ t. insert items (position_of z - 1) t) st))
-        (λ taken. ends-checked (number_of p) _ (λ z. ends-puts v (is_new_position items (position_of z)) (λ t. insert items (position_of z - 1) t) (λ P t h k. each-insert P items (position_of z - 1) t h k) taken))
+        ends-standing classes known s fine tries most o at items i v (λ st. checks (number_of p) (λ z. lists.puts classes tries most o at items i (is_new_position items (position_of z)) (λ t. insert items (position_of z - 1) t) st))
+        (λ taken. ends-checked classes known s fine (number_of p) _ (λ z. ends-puts v (is_new_position items (position_of z)) (λ t. insert items (position_of z - 1) t) (λ P t h k. each-insert P items (position_of z - 1) t h k) taken))
 
     ends-last : (v : Val) → EndsFine classes known (lists.put_last classes tries most o at items i v s)
     ends-last v =
-        ends-standing v (lists.puts classes tries most o at items i true (λ t. items ++ t ∷ [])) (λ taken. ends-puts v true (λ t. items ++ t ∷ []) (λ P t h k. each-both P items (t ∷ []) h (k, tt)) taken)
+        ends-standing classes known s fine tries most o at items i v (lists.puts classes tries most o at items i true (λ t. items ++ t ∷ [])) (λ taken. ends-puts v true (λ t. items ++ t ∷ []) (λ P t h k. each-both P items (t ∷ []) h (k, tt)) taken)
 
     -- ---- an item is taken out
 
     ends-takes : (position : ℕ) (b : Bool) → EndsFine classes known (lists.takes classes tries most o at items i position b s)
-    ends-takes position false = ends-error error.IllegalValue
+    ends-takes position false = ends-error classes known s fine error.IllegalValue
     ends-takes position true =
         let slots : List Slot = remove items (position - 1) in
-        ends-with (slot_set s.memory o.number at (Items slots) []) yes (record {
+        ends-with classes known s fine (slot_set s.memory o.number at (Items slots) []) yes (record {
           good = (slot-keeps classes s.memory fine.good o at list.prop (Items slots) [] list.live list.there (list-fits s.memory slots (each-remove (λ t. IsElement classes s.memory i (out-Slot t)) items (position - 1) items-fit))).good;
           names = slots_name classes known s.memory o.number at (Items slots) [] fine.names (names-none classes known (Items slots) (subst NamesNoId (sym (out-Items slots)) tt));
         })
 
     ends-out : (p : Val) → EndsFine classes known (lists.take_out classes tries most o at items i p s)
-    ends-out p = ends-checked (number_of p) _ (λ z. ends-takes (position_of z) (is_position items (position_of z)))
+    ends-out p = ends-checked classes known s fine (number_of p) _ (λ z. ends-takes (position_of z) (is_position items (position_of z)))
 
     -- ---- the whole
 
     ends-list : (member : ItemMember) (args : List Val) → member ≢ GetAt → EndsFine classes known (on_list classes tries most o at items i member args s)
     unfolding on_list
-    ends-list Count args no_get = ends-without args _ (ends-answer _)
+    ends-list Count args no_get = ends-without classes known s fine args _ (ends-answer classes known s fine _)
     ends-list GetAt args no_get = absurd (no_get refl)
-    ends-list SetAt args no_get = ends-args args _ ends-set
-    ends-list Insert args no_get = ends-arg args _ ends-last
-    ends-list InsertAt args no_get = ends-args args _ ends-before
-    ends-list RemoveAt args no_get = ends-arg args _ ends-out
-    ends-list Next args no_get = ends-error error.MethodDoesNotExist
-    ends-list Unknown args no_get = ends-error error.MethodDoesNotExist
+    ends-list SetAt args no_get = ends-args classes known s fine args _ ends-set
+    ends-list Insert args no_get = ends-arg classes known s fine args _ ends-last
+    ends-list InsertAt args no_get = ends-args classes known s fine args _ ends-before
+    ends-list RemoveAt args no_get = ends-arg classes known s fine args _ ends-out
+    ends-list Next args no_get = ends-error classes known s fine error.MethodDoesNotExist
+    ends-list Unknown args no_get = ends-error classes known s fine error.MethodDoesNotExist
 
 pub lists_quiet : ListsAreQuiet
 lists_quiet classes known tries most s o at i slot member args schema fine list no_get = ends-list classes known tries most schema s fine o at i slot list member args no_get

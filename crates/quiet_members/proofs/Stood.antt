@@ -1,11 +1,12 @@
 -- An element that is set leaves a memory as it is asked to be, whatever whole it is a part of.
-use Rattle.std.proofs.Common.{◌≡◌, ℕ, true, ◌⊎◌, inl, inr, List, Option, None, Some, slice_get, refl, sym, subst}
+use Rattle.std.proofs.Common.{◌≡◌, ℕ, true, ◌⊎◌, inl, inr, List, [], ◌∷◌, Option, None, Some, slice_get, refl, sym, subst}
 use Rattle.std.specs.Option.{IsSomeAnd}
 use Rattle.obj_kinds.specs.declared.name.ClassName.{ClassName}
 use Rattle.schema_kinds.specs.declared.class.Class.{Class}
 use Rattle.schema_kinds.specs.declared.prop.Prop.{Prop}
 use Rattle.schema_kinds.specs.declared.kind.Item.{Item}
 use Rattle.schema_kinds.specs.Classes.{class_of, props_of}
+use Rattle.record_layout.specs.Inverse.{EachGood}
 use Rattle.os_kinds.specs.declared.val.Val.{Val}
 use Rattle.os_kinds.specs.declared.val.Val.TheVariants.{Data, Ref}
 use Rattle.oref_table.specs.declared.oref.Oref.{Oref}
@@ -53,6 +54,10 @@ held-more m w v all n o e = by (found-held m v n o e)
     by : (object_of n (held_for v m).objects ≡ Some o) ⊎ (object_of n (held_for v m).objects ≡ Some (tighten o)) → (u : Object) × (object_of n w.objects ≡ Some u) × (u.class ≡ o.class)
     by (inl f) = (o, all n o f, refl)
     by (inr f) = (tighten o, all n (tighten o) f, refl)
+
+pub each-more : {A : Type 0} (P Q : A → Type 0) (xs : List A) → ((x : A) → P x → Q x) → EachGood P xs → EachGood Q xs
+each-more P Q [] more h = tt
+each-more P Q (x ∷ xs) more h = (more x h.0, each-more P Q xs more h.1)
 
 -- ---- an element is set
 

@@ -1,5 +1,5 @@
 -- Which calls of objects ask nothing, whatever is given to them.
-use Rattle.std.specs.Prelude.{◌≡◌, ◌≢◌, ℕ, List, Some, slice_get}
+use Rattle.std.specs.Prelude.{◌≡◌, ◌≢◌, ℕ, List, Some, slice_get, codes}
 use Rattle.obj_kinds.specs.declared.name.ClassName.{ClassName}
 use Rattle.schema_kinds.specs.declared.class.Class.{Class}
 use Rattle.schema_kinds.specs.declared.prop.Prop.{Prop}
@@ -11,11 +11,16 @@ use Rattle.os_meaning.specs.Syntax.{Name}
 use Rattle.oref_table.specs.declared.slot.Slot.{Slot}
 use Rattle.oref_table.specs.declared.slot.Slot.TheViews.{out-Slot}
 use Rattle.oref_table.specs.Memory.{Object, Memory, object_of}
-use Rattle.obj_shape.specs.Records.{items_of}
+use Rattle.obj_shape.specs.Records.{items_of, pairs_of}
+use Rattle.obj_props.specs.Properties.{prop_place}
+use Rattle.object_calls.specs.Keys.{ManySide}
 use Rattle.host_meaning.specs.Objects.{Known}
-use Rattle.object_members.specs.ItemMembers.{ItemMember, GetAt}
+use Rattle.object_members.specs.ItemMembers.{ItemMember, GetAt, Insert}
 use Rattle.object_members.specs.Lists.{on_list}
-use Rattle.object_members.specs.Members.{news}
+use Rattle.object_members.specs.Arrays.{on_array}
+use Rattle.object_members.specs.ManySides.{on_members}
+use Rattle.object_members.specs.Members.{Id, IsModified, news, of_stored}
+use Rattle.object_members.specs.Seeing.{props_at}
 use Rattle.object_members.specs.Writes.{write_prop}
 use Rattle.known_objects.specs.Classed.{Classed}
 use Rattle.quiet_members.specs.Quiet.{IsFine, EndsFine, IsQuiet, IsSchemaOfMembers}
@@ -42,3 +47,39 @@ ListsAreQuiet =
     (classes : List Class) (known : Classed) (tries most : ℕ) (s : Known Memory) (o : Object) (at : ℕ) (i : Item) (slot : Slot) (member : ItemMember) (args : List Val)
     → IsSchemaOfMembers classes → IsFine classes known s.memory → IsListAt classes s.memory o at i slot → member ≢ GetAt
     → EndsFine classes known (on_list classes tries most o at (items_of (out-Slot slot)) i member args s)
+
+-- what a slot of an object is an array of
+pub record IsArrayAt (classes : List Class) (m : Memory) (o : Object) (at : ℕ) (i : Item) (slot : Slot) : Type 0 where
+  pub prop : Prop
+  pub live : object_of o.number m.objects ≡ Some o
+  pub there : slice_get (props_of (class_of classes o.class)) at ≡ Some prop
+  pub kind : prop.kind ≡ kind.ArrayOf i
+  pub stands : slice_get o.slots at ≡ Some slot
+
+-- the members of an array but `GetAt`
+abbrev pub ArraysAreQuiet : Type 0
+ArraysAreQuiet =
+    (classes : List Class) (known : Classed) (tries most : ℕ) (s : Known Memory) (o : Object) (at : ℕ) (i : Item) (slot : Slot) (member : ItemMember) (args : List Val)
+    → IsSchemaOfMembers classes → IsFine classes known s.memory → IsArrayAt classes s.memory o at i slot → member ≢ GetAt
+    → EndsFine classes known (on_array classes tries most o at (pairs_of (out-Slot slot)) i member args s)
+
+-- a property of an object is the many side of these members
+pub record IsManyAt (classes : List Class) (m : Memory) (o : Object) (side : ManySide) (name : Name) : Type 0 where
+  pub at : ℕ
+  pub prop : Prop
+  pub live : object_of o.number m.objects ≡ Some o
+  pub place : prop_place name (props_at classes o.class) ≡ Some at
+  pub there : slice_get (props_at classes o.class) at ≡ Some prop
+  pub kind : prop.kind ≡ kind.Many side.class side.side
+
+-- `Insert` of a many side
+abbrev pub InsertsAreQuiet : Type 0
+InsertsAreQuiet =
+    (classes : List Class) (known : Classed) (tries most : ℕ) (s : Known Memory) (o : Object) (side : ManySide) (name : Name) (args : List Val)
+    → IsSchemaOfMembers classes → IsFine classes known s.memory → IsManyAt classes s.memory o side name → EndsFine classes known (on_members classes tries most o side name Insert args s)
+
+-- `%Id` and `%IsModified`
+abbrev pub MarksAreQuiet : Type 0
+MarksAreQuiet =
+    (classes : List Class) (known : Classed) (tries most : ℕ) (s : Known Memory) (o : Object) (args : List Val) → IsFine classes known s.memory
+    → EndsFine classes known (of_stored classes tries most Id o (codes "%Id") args s) × EndsFine classes known (of_stored classes tries most IsModified o (codes "%IsModified") args s)

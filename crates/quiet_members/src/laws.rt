@@ -1,6 +1,6 @@
 //! Laws of calls of objects that ask no operation: memory stays good and names no more keys.
 
-ghost use Rattle.quiet_members.specs.Laws.{WritesAreQuiet, NewsAreQuiet, ListsAreQuiet};
+ghost use Rattle.quiet_members.specs.Laws.{WritesAreQuiet, NewsAreQuiet, ListsAreQuiet, ArraysAreQuiet, InsertsAreQuiet, MarksAreQuiet};
 
 /// A set of a property asks nothing, whatever the object, the property and the value.
 pub fn writes_are_quiet()
@@ -15,4 +15,19 @@ pub fn new_objects_are_quiet()
 /// The members of a list ask nothing, but for `GetAt`, which opens what stands there as an id.
 pub fn members_of_lists_are_quiet()
     ensures { ListsAreQuiet }
+{}
+
+/// So do the members of an array: a key is a subscript within the limits, or it is refused.
+pub fn members_of_arrays_are_quiet()
+    ensures { ArraysAreQuiet }
+{}
+
+/// `Insert` of a many side asks nothing: the object becomes a member, or what is given is refused.
+pub fn inserts_are_quiet()
+    ensures { InsertsAreQuiet }
+{}
+
+/// `%Id` and `%IsModified` ask nothing.
+pub fn marks_are_quiet()
+    ensures { MarksAreQuiet }
 {}

@@ -3,4 +3,7 @@
 
 mod laws;
 
-pub use laws::{members_of_lists_are_quiet, new_objects_are_quiet, writes_are_quiet};
+pub use laws::{
+    inserts_are_quiet, marks_are_quiet, members_of_arrays_are_quiet, members_of_lists_are_quiet,
+    new_objects_are_quiet, writes_are_quiet,
+};
