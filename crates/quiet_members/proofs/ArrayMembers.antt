@@ -105,10 +105,11 @@ module _ (classes : List Class) (known : Classed) (tries most : ℕ) (schema : I
 
   shape-fits : (v : Val) (k : Sub) → IsTrue (is_legal_sub k) → IsShapeFor classes (held_for v s.memory) array.prop i (λ t. Map (put sub_cmp k t pairs))
   shape-fits v k legal w t all e =
-      array-fits w (put sub_cmp k t pairs)
-      (sorted_put sub_cmp sub_total pairs k t pairs-fit.0,
-      each-put (IsPair classes w i) k t pairs (λ q old g. (g.0, e)) (legal, e)
-      (each-more (IsPair classes s.memory i) (IsPair classes w i) pairs (λ p h. (h.0, element-more classes s.memory w i (out-Slot p.1) (held-more s.memory w v all) h.1)) pairs-fit.1))
+      array-fits w (put sub_cmp k t pairs) (
+        sorted_put sub_cmp sub_total pairs k t pairs-fit.0,
+        each-put (IsPair classes w i) k t pairs (λ q old g. (g.0, e)) (legal, e)
+            (each-more (IsPair classes s.memory i) (IsPair classes w i) pairs (λ p h. (h.0, element-more classes s.memory w i (out-Slot p.1) (held-more s.memory w v all) h.1)) pairs-fit.1),
+      )
 
   -- ---- an element is put
 

@@ -4,4 +4,4 @@ pub mod Stood
 pub mod ListMembers
 pub mod ArrayMembers
 pub mod ManyMembers
-pub mod Marks
+pub mod Whole

@@ -1,5 +1,5 @@
 -- Which calls of objects ask nothing, whatever is given to them.
-use Rattle.std.specs.Prelude.{◌≡◌, ◌≢◌, ℕ, List, Some, slice_get, codes}
+use Rattle.std.specs.Prelude.{◌≡◌, ◌≢◌, ℕ, List, Some, slice_get}
 use Rattle.obj_kinds.specs.declared.name.ClassName.{ClassName}
 use Rattle.schema_kinds.specs.declared.class.Class.{Class}
 use Rattle.schema_kinds.specs.declared.prop.Prop.{Prop}
@@ -15,11 +15,11 @@ use Rattle.obj_shape.specs.Records.{items_of, pairs_of}
 use Rattle.obj_props.specs.Properties.{prop_place}
 use Rattle.object_calls.specs.Keys.{ManySide}
 use Rattle.host_meaning.specs.Objects.{Known}
-use Rattle.object_members.specs.ItemMembers.{ItemMember, GetAt, Insert}
+use Rattle.object_members.specs.ItemMembers.{ItemMember, GetAt, Insert, Next, item_member}
 use Rattle.object_members.specs.Lists.{on_list}
 use Rattle.object_members.specs.Arrays.{on_array}
 use Rattle.object_members.specs.ManySides.{on_members}
-use Rattle.object_members.specs.Members.{Id, IsModified, news, of_stored}
+use Rattle.object_members.specs.Members.{OpenId, DeleteId, class_member, Save, object_member, news, on_class, on_object, on_items}
 use Rattle.object_members.specs.Seeing.{props_at}
 use Rattle.object_members.specs.Writes.{write_prop}
 use Rattle.known_objects.specs.Classed.{Classed}
@@ -78,8 +78,22 @@ InsertsAreQuiet =
     (classes : List Class) (known : Classed) (tries most : ℕ) (s : Known Memory) (o : Object) (side : ManySide) (name : Name) (args : List Val)
     → IsSchemaOfMembers classes → IsFine classes known s.memory → IsManyAt classes s.memory o side name → EndsFine classes known (on_members classes tries most o side name Insert args s)
 
--- `%Id` and `%IsModified`
-abbrev pub MarksAreQuiet : Type 0
-MarksAreQuiet =
-    (classes : List Class) (known : Classed) (tries most : ℕ) (s : Known Memory) (o : Object) (args : List Val) → IsFine classes known s.memory
-    → EndsFine classes known (of_stored classes tries most Id o (codes "%Id") args s) × EndsFine classes known (of_stored classes tries most IsModified o (codes "%IsModified") args s)
+-- ---- whole calls, by the names of members
+
+-- of a class: all but `%OpenId` and `%DeleteId`
+abbrev pub ClassesAreQuiet : Type 0
+ClassesAreQuiet =
+    (classes : List Class) (known : Classed) (tries most : ℕ) (class : ClassName) (name : Name) (args : List Val) → IsSchemaOfMembers classes → class_member name ≢ OpenId → class_member name ≢ DeleteId
+    → IsQuiet classes known (on_class classes tries most class name args)
+
+-- of an object: all but `%Save` and these two
+abbrev pub ObjectsAreQuiet : Type 0
+ObjectsAreQuiet =
+    (classes : List Class) (known : Classed) (tries most : ℕ) (n : ℕ) (name : Name) (args : List Val) → IsSchemaOfMembers classes → object_member name ≢ Save → class_member name ≢ OpenId → class_member name ≢ DeleteId
+    → IsQuiet classes known (on_object classes tries most n name args)
+
+-- of a collection or a many side: all but `GetAt` and `Next`
+abbrev pub ItemsAreQuiet : Type 0
+ItemsAreQuiet =
+    (classes : List Class) (known : Classed) (tries most : ℕ) (n : ℕ) (property name : Name) (args : List Val) → IsSchemaOfMembers classes → item_member name ≢ GetAt → item_member name ≢ Next
+    → IsQuiet classes known (on_items classes tries most n property name args)

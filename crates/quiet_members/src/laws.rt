@@ -1,6 +1,6 @@
 //! Laws of calls of objects that ask no operation: memory stays good and names no more keys.
 
-ghost use Rattle.quiet_members.specs.Laws.{WritesAreQuiet, NewsAreQuiet, ListsAreQuiet, ArraysAreQuiet, InsertsAreQuiet, MarksAreQuiet};
+ghost use Rattle.quiet_members.specs.Laws.{WritesAreQuiet, NewsAreQuiet, ListsAreQuiet, ArraysAreQuiet, InsertsAreQuiet, ClassesAreQuiet, ObjectsAreQuiet, ItemsAreQuiet};
 
 /// A set of a property asks nothing, whatever the object, the property and the value.
 pub fn writes_are_quiet()
@@ -27,7 +27,17 @@ pub fn inserts_are_quiet()
     ensures { InsertsAreQuiet }
 {}
 
-/// `%Id` and `%IsModified` ask nothing.
-pub fn marks_are_quiet()
-    ensures { MarksAreQuiet }
+/// A call of a class asks nothing, whatever it is, but for `%OpenId` and `%DeleteId`.
+pub fn calls_of_classes_are_quiet()
+    ensures { ClassesAreQuiet }
+{}
+
+/// A call of an object asks nothing, whatever it is, but for `%Save` and these two.
+pub fn calls_of_objects_are_quiet()
+    ensures { ObjectsAreQuiet }
+{}
+
+/// A call of a collection or of a many side asks nothing, whatever it is, but for `GetAt` and `Next`.
+pub fn calls_of_items_are_quiet()
+    ensures { ItemsAreQuiet }
 {}

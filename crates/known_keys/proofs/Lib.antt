@@ -1,0 +1,3 @@
+pub mod OneKept
+pub mod Calls
+pub mod Steps
