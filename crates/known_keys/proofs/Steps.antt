@@ -16,7 +16,6 @@ use Rattle.steady_runs.proofs.Keeping.{orderly}
 use Rattle.good_calls.specs.Laws.{IsAtRest}
 use Rattle.good_saves.specs.Laws.{KnowsAll}
 use Rattle.known_objects.specs.Classed.{Classed}
-use Rattle.known_keys.specs.Knowledge.{IsKnowledge}
 use Rattle.known_keys.specs.Laws.{OthersKeepKnowledge, PlainKeepsKnowledge}
 
 module _ (classes : List Class) (p : Pid) where
